@@ -1,0 +1,10 @@
+pub mod Refusals
+pub mod Documents
+pub mod KnownKeys
+pub mod Items
+pub mod PropertySteps
+pub mod HostSteps
+pub mod MessageSteps
+pub mod Readings
+pub mod TableLimits
+pub mod Within

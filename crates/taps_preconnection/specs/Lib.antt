@@ -1,0 +1,17 @@
+pub mod Refusals
+pub mod Documents
+pub mod Keys
+pub mod Values
+pub mod Words
+pub mod PropertyTables
+pub mod PropertySets
+pub mod Paths
+pub mod Endpoints
+pub mod Race
+pub mod MessageSets
+pub mod Messages
+pub mod Exchanges
+pub mod Preconnections
+pub mod PathOffers
+pub mod File
+pub mod Limits
