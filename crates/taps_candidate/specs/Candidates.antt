@@ -1,0 +1,67 @@
+-- The triples that survive, with their keys, level by level as the code lists them.
+use Rattle.std.specs.Prelude.{ℕ, List, [], ◌∷◌, filter, map, if◌then◌else◌}
+use Rattle.std.specs.List.{enumerate_from, flat_map}
+use Rattle.taps_endpoint.specs.declared.address.Address.{Address}
+use Rattle.taps_endpoint.specs.Families.{family_of}
+use Rattle.taps_preconnection.specs.declared.path.Path.{Path}
+use Rattle.taps_prune.specs.Survival.{path_survives, stack_survives, is_reachable}
+use Rattle.taps_rank.specs.declared.turn.Turn.{Turn}
+use Rattle.taps_rank.specs.Keys.{path_key, stack_key}
+use Rattle.taps_rank.specs.declared.turn.Turns.{Turns}
+use Rattle.taps_rank.specs.Turns.{placed_family, turn_of, turn_in}
+use Rattle.taps_stack.specs.declared.stack.Stack.{Stack}
+use Rattle.taps_stack.specs.StackTable.{stacks, stack_place}
+use Rattle.taps_candidate.specs.declared.candidate.Candidate as code
+use Rattle.taps_candidate.specs.declared.candidate.Level.{Level}
+use Rattle.taps_candidate.specs.declared.plan.Leaf.{Leaf}
+use Rattle.taps_candidate.specs.Gathering.{Gathering, Candidate}
+use Rattle.taps_candidate.specs.Ranking.{rank_key}
+
+-- a triple as the code keeps it
+abbrev pub keyed : Gathering → Candidate → code.Candidate
+keyed g c = record { key = rank_key g c; path = c.path_place; stack = c.stack; address = c.address }
+
+-- one of a level, by its turn
+abbrev pub keyed_by : Level → Turn → ℕ × Address → code.Candidate
+keyed_by level turn (place, address) = record {
+  key = level.path_key ∷ level.path ∷ level.stack_key ∷ stack_place level.stack ∷ turn.round ∷ turn.side ∷ place ∷ [];
+  path = level.path;
+  stack = level.stack;
+  address = address;
+}
+
+-- that of an address, if it is reached, by what the turns before it left
+abbrev pub of_address : Level → Path → Turns → ℕ × Address → List code.Candidate
+of_address level path turns (place, address) =
+    if is_reachable path level.stack address then keyed_by level (turn_in turns (family_of address)) (place, address) ∷ [] else []
+
+-- the addresses that a path and a stack reach, with their places
+abbrev pub reached : Path → Stack → List Address → List (ℕ × Address)
+reached path stack addresses = filter (λ (place, address). is_reachable path stack address) (enumerate_from 0 addresses)
+
+-- one of a level, by its turn among the addresses that are reached
+abbrev pub keyed_among : Level → Path → List Address → ℕ × Address → code.Candidate
+keyed_among level path addresses (place, address) =
+    keyed_by level (turn_of (map placed_family (reached path level.stack addresses)) (place, family_of address)) (place, address)
+
+-- those of a path and a stack
+abbrev pub of_level : Level → Path → List Address → List code.Candidate
+of_level level path addresses = map (keyed_among level path addresses) (reached path level.stack addresses)
+
+abbrev pub level_of : Gathering → ℕ × Path → Stack → Level
+level_of g (place, path) stack =
+    record { path_key = path_key g.selection path; path = place; stack_key = stack_key g.selection stack; stack = stack }
+
+-- those of a stack, if it survives
+abbrev pub of_stack : Gathering → ℕ × Path → Stack → List code.Candidate
+of_stack g path stack = if stack_survives g.selection g.role stack then of_level (level_of g path stack) path.1 g.addresses else []
+
+abbrev pub of_stacks : Gathering → ℕ × Path → List code.Candidate
+of_stacks g path = flat_map (of_stack g path) stacks
+
+-- those of a path, if it survives
+abbrev pub of_path : Gathering → ℕ × Path → List code.Candidate
+of_path g path = if path_survives g.selection g.locals path.1 then of_stacks g path else []
+
+abbrev pub leaf : code.Candidate → Leaf
+leaf c = record { path = c.path; target = record { stack = c.stack; address = c.address } }

@@ -1,0 +1,12 @@
+//! From a Preconnection to the plan of its race: the triples of path, stack and address that survive,
+//! in the order in which they are tried (RFC 9623 section 4).
+#![tactic(auto)]
+
+mod candidate;
+mod plan;
+#[cfg(test)]
+mod tests;
+mod text;
+
+pub use plan::{Leaf, Plan, build_plan};
+pub use text::{plan_string, plan_text};
