@@ -1,0 +1,15 @@
+pub mod MapOver
+pub mod Lists
+pub mod StandsAlike
+pub mod Choices
+pub mod StandsOn
+pub mod Races
+pub mod Turns
+pub mod RunsOn
+pub mod Few
+pub mod Onces
+pub mod Stretches
+pub mod UnderWay
+pub mod CarriedOut
+pub mod Telling
+pub mod SomeRace

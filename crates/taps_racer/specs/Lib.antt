@@ -1,0 +1,11 @@
+pub mod Attempts
+pub mod Kept
+pub mod Commands
+pub mod Events
+pub mod Steps
+pub mod Stands
+pub mod Telling
+pub mod Fields
+pub mod CarriedOut
+pub mod UnderWay
+pub mod SomeRace
