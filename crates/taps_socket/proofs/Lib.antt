@@ -1,0 +1,15 @@
+pub mod WorkedRaces
+pub mod Lists
+pub mod NamedSockets
+pub mod SplitTexts
+pub mod Numbers
+pub mod LineTexts
+pub mod ScriptTables
+pub mod ScriptTexts
+pub mod ScriptEvents
+pub mod ScriptKept
+pub mod ScriptLaws
+pub mod ScriptNumbers
+pub mod OneBroken
+pub mod OneRace
+pub mod RightAnswers
