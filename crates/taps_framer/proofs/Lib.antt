@@ -1,0 +1,4 @@
+pub mod Bytes
+pub mod Prefixes
+pub mod Laws
+pub mod Sights

@@ -1,0 +1,13 @@
+pub mod Bodies
+pub mod Formats
+pub mod Heads
+pub mod Len16
+pub mod Len32
+pub mod Tag
+pub mod Seq
+pub mod Decimals
+pub mod Netstring
+pub mod Counted
+pub mod Varint
+pub mod Line
+pub mod Stuffed

@@ -1,0 +1,28 @@
+//! The nine framers, each exact to its grammar.
+#![tactic(auto)]
+
+mod counted;
+mod decimal;
+mod head;
+mod len16;
+mod len32;
+mod line;
+mod netstring;
+mod prefix;
+mod room;
+mod seq;
+mod stuffed;
+mod tag;
+#[cfg(test)]
+mod tests;
+mod varint;
+
+pub use counted::Counted;
+pub use len16::Len16;
+pub use len32::Len32;
+pub use line::Line;
+pub use netstring::Netstring;
+pub use seq::Seq;
+pub use stuffed::Stuffed;
+pub use tag::Tag;
+pub use varint::Varint;
