@@ -1,0 +1,17 @@
+pub mod Depths
+pub mod Wrapping
+pub mod Spelled
+pub mod Delimits
+pub mod Once
+pub mod Exists
+pub mod Cuts
+pub mod Opening
+pub mod Undone
+pub mod Lawful
+pub mod Firsts
+pub mod Exacts
+pub mod Draining
+pub mod Pieces
+pub mod Joined
+pub mod Coming
+pub mod ShortPairs

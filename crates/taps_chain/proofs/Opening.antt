@@ -1,0 +1,91 @@
+-- Layers that are taken off, one after the other.
+use Rattle.std.proofs.Common.{◌≡◌, ℕ, suc, ◌+◌, ◌<◌, ◌≤◌, true, List, [], ◌∷◌, ◌++◌, length, drop, Some, slice_get, refl, ap, sym, subst, ◌∙◌, arith, length-append}
+use Rattle.std.proofs.lemmas.List.{drop_all}
+use Rattle.taps_framer.specs.Layers.{Layer, IsWholeFrame, holds_whole_frame, first_frame}
+use Rattle.taps_framer.proofs.Laws.{held, Held}
+use Rattle.taps_framer.proofs.Prefixes.{append-nil}
+use Rattle.taps_chain.specs.Chained.{chained, IsSpoken}
+use Rattle.taps_chain.specs.Faults.{IsInexact, left_over, IsBadIn}
+use Rattle.taps_chain.proofs.Depths.{drop-layer}
+
+no_length : (x : List ℕ) → length x ≤ 0 → x ≡ []
+no_length [] h = refl
+no_length (a ∷ x) h = absurd (omega arith)
+
+-- a frame that uses all bytes is the one frame that they are
+pub whole_used : (f : Layer) (k : ℕ) (x : List ℕ) (used : ℕ) → holds_whole_frame f k x ≡ true → used ≡ length (first_frame f k x) → length x ≤ used → IsWholeFrame f k x
+whole_used f k x used h u n =
+    let w : Held f k x = held f k x h in
+    let e : drop (length (first_frame f k x)) x ≡ [] = no_length (drop (length (first_frame f k x)) x) (omega (arith, ap length w.split ∙ length-append (first_frame f k x) (drop (length (first_frame f k x)) x))) in
+    record { spoken = w.spoken; exact = sym (w.split ∙ ap (λ (v : List ℕ). first_frame f k x ++ v) e ∙ append-nil (first_frame f k x)) }
+
+-- one that does not is none
+pub over_used : (f : Layer) (k : ℕ) (x : List ℕ) (used : ℕ) → holds_whole_frame f k x ≡ true → used ≡ length (first_frame f k x) → used < length x → IsInexact f k x used
+over_used f k x used h e n = subst (λ (v : ℕ). IsInexact f k x v) (sym e) (left_over h (omega arith))
+
+-- the layers from depth a on and below depth d are off, and these bytes are left
+pub record Reached (fs : List Layer) (k : ℕ) (x : List ℕ) (a d : ℕ) (current : List ℕ) : Type 0 where
+  pub bad : (i p : ℕ) → IsBadIn (drop d fs) k current i p → (j : ℕ) × ((i + d ≡ j + a) × IsBadIn (drop a fs) k x j p)
+  pub good : (m : List ℕ) → IsSpoken (drop d fs) k m → current ≡ chained (drop d fs) k m → IsSpoken (drop a fs) k m × (x ≡ chained (drop a fs) k m)
+
+pub reached_none : (fs : List Layer) (k : ℕ) (x : List ℕ) (a : ℕ) → Reached fs k x a a x
+reached_none fs k x a = record {
+  bad = λ i p h. (i, (refl, h));
+  good = λ m u c. (u, c);
+}
+
+pub reached_all : (fs : List Layer) (k : ℕ) (x : List ℕ) (a d : ℕ) (current : List ℕ) → d ≡ length fs → Reached fs k x a d current → IsSpoken (drop a fs) k current × (x ≡ chained (drop a fs) k current)
+reached_all fs k x a d current e r =
+    let n : drop d fs ≡ [] = drop_all d fs (omega arith) in
+    r.good current (subst (λ (v : List Layer). IsSpoken v k current) (sym n) refl) (subst (λ (v : List Layer). current ≡ chained v k current) (sym n) refl)
+
+module _ (fs : List Layer) (k : ℕ) (x : List ℕ) (a d : ℕ) (current seen : List ℕ) (f : Layer) (h : slice_get fs d ≡ Some f) (r : Reached fs k x a d current) (same : seen ≡ current) where
+  split : drop d fs ≡ f ∷ drop (suc d) fs
+  split = drop-layer fs d f h
+
+  pub reached_fault : (p : ℕ) → IsInexact f k seen p → (j : ℕ) × ((d ≡ j + a) × IsBadIn (drop a fs) k x j p)
+  reached_fault p i =
+      let i' : IsInexact f k current p = subst (λ (v : List ℕ). IsInexact f k v p) same i in
+      let w = r.bad 0 p (subst (λ (v : List Layer). IsBadIn v k current 0 p) (sym split) i') in
+      let e : 0 + d ≡ w.0 + a = w.1.0 in
+      (w.0, (omega arith, w.1.1))
+
+  pub reached_more : (n : ℕ) (next : List ℕ) → n ≡ suc d → IsWholeFrame f k seen → next ≡ f.front k seen → Reached fs k x a n next
+  reached_more n next m i' e' =
+      let i : IsWholeFrame f k current = subst (λ (v : List ℕ). IsWholeFrame f k v) same i' in
+      let e : next ≡ f.front k current = e' ∙ ap (λ (v : List ℕ). f.front k v) same in
+      subst (λ (v : ℕ). Reached fs k x a v next) (sym m) (record {
+        bad = λ l p j.
+            let w = r.bad (suc l) p (subst (λ (v : List Layer). IsBadIn v k current (suc l) p) (sym split) (i, subst (λ (v : List ℕ). IsBadIn (drop (suc d) fs) k v l p) e j)) in
+            let o : suc l + d ≡ w.0 + a = w.1.0 in
+            (w.0, (omega arith, w.1.1));
+        good = λ m u c.
+            let b : f.front k current ≡ chained (drop (suc d) fs) k m = sym e ∙ c in
+            let s' : f.speaks (chained (drop (suc d) fs) k m) ≡ true = subst (λ (v : List ℕ). f.speaks v ≡ true) b i.spoken in
+            r.good m
+            (subst (λ (v : List Layer). IsSpoken v k m) (sym split) (rw (s', u) refl))
+            (subst (λ (v : List Layer). current ≡ chained v k m) (sym split) (sym i.exact ∙ ap (λ (v : List ℕ). f.frame k v) b));
+      })
+
+-- the layer nearest to the transport is off, and what the layers above find in its body is found in the bytes
+module _ (fs : List Layer) (k : ℕ) (x b : List ℕ) (f : Layer) (h : slice_get fs 0 ≡ Some f) (i : IsWholeFrame f k x) (e : b ≡ f.front k x) where
+  one_off : Reached fs k x 0 1 b
+  one_off = reached_more fs k x 0 0 x x f h (reached_none fs k x 0) refl 1 b refl i e
+
+  pub whole_below : (m : List ℕ) → IsSpoken (drop 1 fs) k m → b ≡ chained (drop 1 fs) k m → IsSpoken fs k m × (x ≡ chained fs k m)
+  whole_below m s c = one_off.good m s c
+
+  pub fault_below : (l p : ℕ) → (j : ℕ) × ((l ≡ j + 1) × IsBadIn (drop 1 fs) k b j p) → IsBadIn fs k x l p
+  fault_below l p w =
+      let r = one_off.bad w.0 p w.1.1 in
+      let n : w.0 + 1 ≡ r.0 + 0 = r.1.0 in
+      let o : r.0 ≡ l = omega (arith, w.1.0) in
+      subst (λ (v : ℕ). IsBadIn fs k x v p) o r.1.1
+
+-- the layer nearest to the transport is at fault
+pub fault_first : (fs : List Layer) (k : ℕ) (x : List ℕ) (f : Layer) → slice_get fs 0 ≡ Some f → (p : ℕ) → IsInexact f k x p → IsBadIn fs k x 0 p
+fault_first fs k x f h p i =
+    let r = reached_fault fs k x 0 0 x x f h (reached_none fs k x 0) refl p i in
+    let n : 0 ≡ r.0 + 0 = r.1.0 in
+    let o : r.0 ≡ 0 = omega arith in
+    subst (λ (v : ℕ). IsBadIn fs k x v p) o r.1.1

@@ -1,0 +1,5 @@
+use Rattle.taps_chain.proofs.Opening.{fault_first}
+use Rattle.taps_chain.proofs.whole.whole_of.Goals as goal
+
+pub returns-in-Bad : goal.returns-in-Bad
+returns-in-Bad g c = fault_first _ _ _ _ c.at.ensures _ c.in-Bad.ensures

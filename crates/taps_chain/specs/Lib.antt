@@ -1,0 +1,13 @@
+pub mod Chained
+pub mod Faults
+pub mod Heard
+pub mod ChainLaws
+pub mod Layers
+pub mod Wraps
+pub mod Wholes
+pub mod Streams
+pub mod Founds
+pub mod Nexts
+pub mod Ears
+pub mod Hearings
+pub mod TestFramers
