@@ -1,0 +1,52 @@
+// Bytes in hexadecimal.
+ghost use Rattle.std.specs.Prelude.{◌≡◌, ◌++◌, ◌*◌, ◌<◌, length, OnOk};
+ghost use Rattle.std.specs.List.{flat_map};
+ghost use Rattle.taps_text.specs.BodyLines.{hex_digit, byte_digits, hex_text};
+
+use crate::line::put;
+use taps_base::NoMemory;
+
+/// Bytes as two digits each, and no bytes as `-`.
+pub(crate) fn put_hex(text: &mut Vec<u8>, bytes: &[u8]) -> Result<(), NoMemory>
+    ensures { OnOk result (text.new.items ≡ text.old.items ++ hex_text bytes.now) }
+{
+    if bytes.is_empty() {
+        put(text, b"-")
+    } else {
+        put_digits(text, bytes)
+    }
+}
+
+// The place is made at once, and then written.
+fn put_digits(text: &mut Vec<u8>, bytes: &[u8]) -> Result<(), NoMemory>
+    ensures { OnOk result (text.new.items ≡ text.old.items ++ flat_map byte_digits bytes.now) }
+{
+    let size = 2 * bytes.len();
+    text.reserve(size)?;
+    let start = text.len();
+    text.resize(start + size, 0)?;
+    write_digits(bytes, &mut text[start..]);
+    Ok(())
+}
+
+fn write_digits(bytes: &[u8], place: &mut [u8])
+    requires { length place.old ≡ 2 * length bytes.now }
+    ensures { place.new ≡ flat_map byte_digits bytes.now }
+{
+    for i in 0..bytes.len() {
+        let byte = bytes[i];
+        place[2 * i] = digit(byte / 16);
+        place[2 * i + 1] = digit(byte % 16);
+    }
+}
+
+fn digit(number: u8) -> u8
+    requires { number < 16 }
+    ensures { result ≡ hex_digit number }
+{
+    if number < 10 {
+        b'0' + number
+    } else {
+        b'a' + (number - 10)
+    }
+}

@@ -1,0 +1,23 @@
+//! Every printed line but those of a plan: what stands in a log, and what is said on the error output.
+#![tactic(auto)]
+
+mod answer;
+mod body;
+mod cause;
+mod error_line;
+mod hex;
+mod item;
+mod line;
+mod log;
+mod outcome;
+mod refusal;
+#[cfg(test)]
+mod tests;
+
+pub use answer::put_answer;
+pub use body::{put_frame, put_message, put_part, put_received, put_rest, put_sent};
+pub use error_line::{fault_line, no_memory_line, output_fault_line, refused_line, usage_line};
+pub use item::{put_item, put_items};
+pub use log::put_log;
+pub use outcome::{Outcome, put_outcome};
+pub use refusal::Refusal;
