@@ -1,0 +1,44 @@
+ghost use Rattle.taps_chain.specs.TestFramers.{pair};
+
+use taps_base::NoMemory;
+use taps_framer::{Framer, Sight};
+
+/// One byte, and what it lacks of 255.
+#[derive(Drop)]
+pub struct Pair;
+
+impl Framer for Pair {
+    ghost layer = { λ _. pair };
+
+    fn name(&self) -> &str {
+        "pair"
+    }
+
+    fn speaks(&self, body: &[u8]) -> bool {
+        matches!(body, [_])
+    }
+
+    fn write(&self, _: u64, body: &[u8], out: &mut Vec<u8>) -> Result<(), NoMemory> {
+        out.extend_from_slice(&[body[0], 255 - body[0]])?;
+        Ok(())
+    }
+
+    fn read(&self, _: u64, buffer: &[u8]) -> Sight {
+        if buffer.len() < 2 {
+            return Sight::Need;
+        }
+        if buffer[1] == 255 - buffer[0] {
+            Sight::Whole { used: 2 }
+        } else {
+            Sight::Bad { place: 1 }
+        }
+    }
+
+    fn unwrap(&self, _: u64, frame: &[u8], out: &mut Vec<u8>) -> Result<(), NoMemory> {
+        out.extend_from_slice(&frame[..1])?;
+        Ok(())
+    }
+
+    #[tactic(auto, using(taps_chain::proofs::ShortPairs::pair_is_framer))]
+    fn vouch(&self, _: u64) {}
+}

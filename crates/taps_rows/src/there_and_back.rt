@@ -1,0 +1,159 @@
+// What is framed is heard again, through chains of framers.
+use crate::frame_rows::{FRAME, file_with, unframe_row};
+use crate::row::{holds, nine, owned};
+use std::alloc::{AllocError, Global};
+use std::process::Abort;
+use std::test::Fail;
+use taps_app::run;
+use taps_base::{MemoryFiles, MemorySink};
+use taps_socket::ScriptSockets;
+
+const SHORT: &[usize] = &[0, 1, 255, 256];
+
+const SOME: &[usize] = &[1, 255, 256];
+
+const SINGLE: [(&str, &[usize]); 9] = [
+    ("\"len16\"", SHORT),
+    ("\"len32\"", SHORT),
+    ("\"varint\"", SHORT),
+    ("\"netstring\"", SHORT),
+    ("\"counted\"", SOME),
+    ("\"line\"", SHORT),
+    ("\"stuffed\"", SHORT),
+    ("\"tag\"", SHORT),
+    ("\"seq\"", SHORT),
+];
+
+const CHAINS: [(&str, &[usize]); 10] = [
+    ("\"len16\", \"netstring\"", SHORT),
+    ("\"netstring\", \"len16\"", SHORT),
+    ("\"stuffed\", \"varint\"", SHORT),
+    ("\"tag\", \"seq\"", SHORT),
+    ("\"line\", \"counted\"", SOME),
+    ("\"len32\", \"line\"", SHORT),
+    ("\"seq\", \"tag\", \"line\"", SHORT),
+    ("\"counted\", \"stuffed\", \"len32\"", SHORT),
+    ("\"varint\", \"varint\", \"varint\"", SHORT),
+    ("\"stuffed\", \"stuffed\", \"netstring\"", SHORT),
+];
+
+const LONG: [(&str, &[usize]); 4] = [
+    ("\"line\"", &[65_535]),
+    ("\"stuffed\"", &[65_535]),
+    ("\"varint\"", &[65_536]),
+    ("\"seq\", \"len32\"", &[65_536]),
+];
+
+// Messages of these lengths, as tables.
+fn messages(alloc: Global, lengths: &[usize]) -> Result<String, AllocError> {
+    let mut text = String::new(alloc);
+    for length in lengths {
+        let body = vec![in alloc; b'x'; *length]?;
+        let body = str::from_utf8(&body).unwrap_or("");
+        writeln!(text, "[[message]]\ntext = \"{body}\"")?;
+    }
+    Ok(text)
+}
+
+// The digits of so many bytes.
+fn digits(alloc: Global, length: usize) -> Result<String, AllocError> {
+    let mut text = String::new(alloc);
+    if length == 0 {
+        text.push_str("-")?;
+    }
+    for _ in 0..length {
+        text.push_str("78")?;
+    }
+    Ok(text)
+}
+
+// What is heard of messages of these lengths.
+fn heard(alloc: Global, lengths: &[usize]) -> Result<String, AllocError> {
+    let mut text = String::new(alloc);
+    for (number, length) in lengths.iter().enumerate() {
+        let digits = digits(alloc, *length)?;
+        writeln!(text, "message {number} {digits}")?;
+    }
+    text.push_str("rest 0\n")?;
+    Ok(text)
+}
+
+// What a file's messages are framed as.
+fn framed<R: Abort>(rt: &R, alloc: Global, file: &str) -> Result<Vec<u8>, Fail> {
+    let words = owned(alloc, FRAME.words)?;
+    let mut files = MemoryFiles::new(alloc, &[])?;
+    files.add(alloc, FRAME.held, file.as_bytes())?;
+    let mut out = MemorySink::new(alloc, 1_000_000, None)?;
+    let mut err = MemorySink::new(alloc, 200, None)?;
+    let mut net = ScriptSockets::read(alloc, b"")?;
+    let shelf = nine(alloc)?;
+    let status = run(
+        alloc, &words, &mut files, &mut out, &mut err, &mut net, &shelf,
+    );
+    assert_eq!(rt; status.code(), 0);
+    Ok(bytes_of(alloc, out.bytes())?)
+}
+
+// The bytes that lines of digits stand for.
+fn bytes_of(alloc: Global, lines: &[u8]) -> Result<Vec<u8>, AllocError> {
+    let mut bytes = Vec::new(alloc);
+    let mut first = None;
+    for digit in lines.iter().copied().filter(|byte| *byte != b'\n') {
+        first = match first {
+            None => Some(value(digit)),
+            Some(high) => {
+                bytes.push(high << 4 | value(digit))?;
+                None
+            }
+        };
+    }
+    Ok(bytes)
+}
+
+fn value(digit: u8) -> u8 {
+    match digit {
+        b'0'..=b'9' => digit - b'0',
+        b'a'..=b'f' => digit - b'a' + 10,
+        _ => 0,
+    }
+}
+
+// Frames messages of these lengths, and hears them.
+fn comes_back<R: Abort>(
+    rt: &R,
+    alloc: Global,
+    framers: &str,
+    lengths: &[usize],
+) -> Result<(), Fail> {
+    let file = file_with(alloc, framers, &messages(alloc, lengths)?)?;
+    let bytes = framed(rt, alloc, &file)?;
+    let out = heard(alloc, lengths)?;
+    holds(rt, alloc, &unframe_row(&file, &bytes, &out, 0))
+}
+
+#[test]
+fn through_one_framer(rt: HostRuntime) -> Result<(), Fail> {
+    let alloc = rt.alloc();
+    for (framers, lengths) in SINGLE {
+        comes_back(&rt, alloc, framers, lengths)?;
+    }
+    Ok(())
+}
+
+#[test]
+fn through_chains(rt: HostRuntime) -> Result<(), Fail> {
+    let alloc = rt.alloc();
+    for (framers, lengths) in CHAINS {
+        comes_back(&rt, alloc, framers, lengths)?;
+    }
+    Ok(())
+}
+
+#[test]
+fn long_messages(rt: HostRuntime) -> Result<(), Fail> {
+    let alloc = rt.alloc();
+    for (framers, lengths) in LONG {
+        comes_back(&rt, alloc, framers, lengths)?;
+    }
+    Ok(())
+}
