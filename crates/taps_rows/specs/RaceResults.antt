@@ -1,10 +1,10 @@
 -- What a caller learns of a race over sockets of which it knows the trait alone.
-use Rattle.std.specs.Prelude.{◌≡◌, ℕ, true, false, List, ◌++◌, Ok}
-use Rattle.std.specs.List.{Contains}
+use Rattle.std.specs.Prelude.{◌≡◌, ℕ, true, false, List, ◌++◌, Ok, Some, slice_get}
 use Rattle.taps_stack.specs.declared.target.Target.{Target}
 use Rattle.taps_socket.specs.declared.item.Item.{Item}
 use Rattle.taps_socket.specs.declared.race_answer.RaceAnswer.{RaceAnswer}
 use Rattle.taps_socket.specs.declared.line.Line.{Line}
+use Rattle.taps_socket.specs.RaceTrace.{tries}
 use Rattle.taps_socket.specs.RaceSockets.{has, started, completed}
 use Rattle.taps_socket.specs.LiveSockets.{live_sockets}
 use Rattle.taps_socket.specs.Rules.{Rules}
@@ -13,11 +13,15 @@ use Rattle.taps_socket.specs.Net.{Net}
 use Rattle.taps_socket.specs.Scripts.{script_of}
 use Rattle.taps_socket.specs.ScriptAnswers.{FollowsScript}
 
--- a target of the list won, on a socket that is live and completed
-pub record HasWon (targets : List Target) (net : Net) (target : Target) (socket : ℕ) : Type 0 where
-  pub listed : Contains targets target
-  pub live : has (live_sockets net.trace) socket ≡ true
-  pub done : has (completed net.trace) socket ≡ true
+-- in the race between the two a target of the list won, on the socket of its own attempt, which is live and completed
+pub record HasWon (targets : List Target) (before after : Net) (target : Target) (socket : ℕ) : Type 0 where
+  pub race : List Item
+  pub leaf : ℕ
+  pub trace : after.trace ≡ race ++ before.trace
+  pub listed : slice_get targets leaf ≡ Some target
+  pub attempt : slice_get (tries race) leaf ≡ Some (Some socket)
+  pub live : has (live_sockets after.trace) socket ≡ true
+  pub done : has (completed after.trace) socket ≡ true
 
 -- of the sockets that were started between the two none is live
 pub record LeavesNone (before after : Net) (items : List Item) : Type 0 where
