@@ -1,3 +1,4 @@
 pub mod Known
 pub mod NameTexts
 pub mod MemorySinks
+pub mod Results

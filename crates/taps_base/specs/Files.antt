@@ -4,7 +4,7 @@ use Rattle.taps_base.specs.Counts.{Rose, one_more}
 use Rattle.taps_base.specs.declared.files.FileAnswer.{FileAnswer}
 use Rattle.taps_base.specs.declared.files.FileAnswer.TheVariants.{Bytes, TooLong, Failed, NoMemory}
 
--- the contents that files tell, if they do: what each name holds
+-- what each name holds, where observable
 abbrev pub Contents : Type 0
 Contents = Option (List ℕ → Option (List ℕ))
 
@@ -15,12 +15,12 @@ pub record FilesState : Type 0 where
   pub last_failed : Option (List ℕ)
   pub reads : ℕ
 
--- where the contents are told, these bytes are what the name holds
+-- where the contents are observable, these bytes are what the name holds
 abbrev pub IsContent : Contents → List ℕ → List ℕ → Type 0
 IsContent None name bytes = ⊤
 IsContent (Some held) name bytes = held name ≡ Some bytes
 
--- where the contents are told, the name holds more than this many bytes
+-- where the contents are observable, the name holds more than this many bytes
 abbrev pub IsLonger : Contents → List ℕ → ℕ → Type 0
 IsLonger None name max = ⊤
 IsLonger (Some held) name max = IsSomeAnd (held name) (λ bytes. max < length bytes)
@@ -30,7 +30,7 @@ pub record IsQuiet (old new : FilesState) : Type 0 where
   pub faults : new.faults ≡ old.faults
   pub last_failed : new.last_failed ≡ old.last_failed
 
--- what each answer to a read of this name says
+-- what each answer to a read of this name means
 abbrev pub Means : FileAnswer → FilesState → FilesState → List ℕ → ℕ → Type 0
 Means (Bytes body) old new name max = IsContent old.contents name body × (length body ≤ max) × IsQuiet old new
 Means TooLong old new name max = IsLonger old.contents name max × IsQuiet old new

@@ -1,5 +1,6 @@
 pub mod Counts
 pub mod Lists
+pub mod Results
 pub mod Names
 pub mod Files
 pub mod MemoryFiles

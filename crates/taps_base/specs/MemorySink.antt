@@ -14,6 +14,7 @@ pub record MemorySinkState : Type 0 where
   pub writes : ℕ
   pub faults : ℕ
 
+-- what contracts see of a sink in memory, whose bytes are observable
 abbrev pub sink_state : MemorySinkState → SinkState
 sink_state s = record { taken = Some s.taken; faults = s.faults; writes = s.writes }
 

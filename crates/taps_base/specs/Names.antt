@@ -1,4 +1,4 @@
--- What a name is (this project's own rule).
+-- What a name is (local).
 use Rattle.std.specs.Prelude.{ℕ, List, length, Bool, ◌&&◌, ◌||◌, ◌==◌, nat_le}
 use Rattle.std.specs.List.{list_all}
 

@@ -5,17 +5,17 @@ use Rattle.taps_base.specs.Counts.{Rose, one_more}
 use Rattle.taps_base.specs.declared.sink.SinkAnswer.{SinkAnswer}
 use Rattle.taps_base.specs.declared.sink.SinkAnswer.TheVariants.{Taken, Failed}
 
--- the bytes taken, where the sink tells them; how often a write failed, and how many writes were made
+-- the bytes taken, where observable; how often a write failed, and how many writes were made
 pub record SinkState : Type 0 where
   pub taken : Option (List ℕ)
   pub faults : ℕ
   pub writes : ℕ
 
--- told bytes grow by a prefix of these
+-- observable bytes grow by a prefix of these
 abbrev pub AppendsPrefix : Option (List ℕ) → Option (List ℕ) → List ℕ → Type 0
 AppendsPrefix old new bytes = (n : ℕ) × Appends old new (take n bytes)
 
--- told bytes grow by the whole, or by a prefix
+-- observable bytes grow by all of these, or by a prefix
 abbrev pub Writes : SinkAnswer → Option (List ℕ) → Option (List ℕ) → List ℕ → Type 0
 Writes Taken old new bytes = Appends old new bytes
 Writes Failed old new bytes = AppendsPrefix old new bytes

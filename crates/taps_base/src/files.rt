@@ -1,7 +1,6 @@
 ghost use Rattle.taps_base.specs.Files.{FilesState, Answers};
 
 use crate::Body;
-use std::alloc::Global;
 
 /// What files answer to a read.
 #[derive(Debug, Drop)]
@@ -18,12 +17,12 @@ pub enum FileAnswer {
 
 /// Files by name.
 ///
-/// Contracts see the contents where the files tell them, how often a read failed, the name of the
-/// last that did, and how many reads were made.
+/// Contracts see the contents where observable, how often a read failed, the name of the last that
+/// did, and how many reads were made.
 pub trait Files {
     ghost state: { Self → FilesState };
 
     /// The content of a name, if it has at most `max` bytes.
-    fn read(&mut self, alloc: Global, name: &str, max: u64) -> FileAnswer
+    fn read(&mut self, name: &str, max: u64) -> FileAnswer
         ensures { Answers result (state self.old) (state self.new) name.now max };
 }

@@ -1,4 +1,5 @@
-//! What every layer stands on: the want of memory, lists, bodies, names, gaps, files and sinks.
+//! What every layer stands on: out of memory, lists, bodies, names, delays between attempts, files and
+//! sinks.
 #![tactic(auto)]
 
 mod body;

@@ -4,9 +4,9 @@ use crate::NoMemory;
 use std::alloc::Global;
 use std::marker::Model;
 
-/// Values in a row, with room that was made for more.
+/// Values in a row, with room reserved for more.
 ///
-/// Contracts see the items, and `spare`: so many pushes cannot fail.
+/// Contracts see the items, and `spare`: the next `spare` pushes cannot fail.
 #[derive(Drop)]
 pub struct List<T> {
     values: Vec<T>,
@@ -40,7 +40,7 @@ impl<T> List<T> {
         List { values, spare: 0 }
     }
 
-    /// Makes room for more values.
+    /// Reserves room for this many more values.
     pub fn reserve(&mut self, more: usize) -> Result<(), NoMemory>
     where
         T: Drop,
@@ -56,7 +56,7 @@ impl<T> List<T> {
         Ok(())
     }
 
-    /// Adds a value. One that finds no room is handed back.
+    /// Adds a value. Where memory runs out, it is handed back.
     pub fn push(&mut self, value: T) -> Result<(), (NoMemory, T)>
         ensures ok { OnOk result (self.new ≡ record { items = self.old.items ++ value ∷ []; spare = self.old.spare - 1 }) }
         ensures err { OnErr result (self.new ≡ self.old) }
@@ -69,6 +69,19 @@ impl<T> List<T> {
                 Ok(())
             }
             Err(failed) => Err((NoMemory, failed.value)),
+        }
+    }
+
+    /// Adds a value where room is reserved for it. It takes no memory.
+    pub fn add(&mut self, value: T)
+    where
+        T: Drop,
+        requires { 0 < self.old.spare }
+        ensures { self.new ≡ record { items = self.old.items ++ value ∷ []; spare = self.old.spare - 1 } }
+    {
+        match self.push(value) {
+            Ok(()) => {}
+            Err(_) => unreachable!(),
         }
     }
 
@@ -91,5 +104,18 @@ impl<T> List<T> {
         ensures { result.now ≡ self.now.items }
     {
         self.values.as_slice()
+    }
+
+    /// The allocator that the list keeps.
+    pub fn allocator(&self) -> Global {
+        *self.values.allocator()
+    }
+
+    /// All values, in order, with no copy.
+    pub fn into_vec(self) -> Vec<T>
+        ensures { result.items ≡ self.items }
+    {
+        let List { values, spare: _ } = self;
+        values
     }
 }

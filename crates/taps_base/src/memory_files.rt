@@ -7,9 +7,10 @@ use crate::{Body, FileAnswer, Files, NoMemory};
 use std::alloc::Global;
 use std::collections::BTreeMap;
 
-/// Files in memory, which tell their contents.
+/// Files in memory, whose contents are observable.
 #[derive(Drop)]
 pub struct MemoryFiles {
+    alloc: Global,
     contents: BTreeMap<String, Body>,
     failing: Vec<u64>,
     last_failed: Option<String>,
@@ -26,6 +27,7 @@ impl MemoryFiles {
         ensures unread { IfOk result (λ files. history files ≡ record { failing = faults.now; faults = 0; last_failed = None; reads = 0 }) }
     {
         Ok(MemoryFiles {
+            alloc,
             contents: BTreeMap::new(alloc),
             failing: Vec::from_slice(alloc, faults)?,
             last_failed: None,
@@ -36,14 +38,14 @@ impl MemoryFiles {
 
     /// Adds a file, or replaces the bytes of one that is held.
     #[tactic(auto, using(std::proofs::lemmas::Map::Text::text_keys))]
-    pub fn add(&mut self, alloc: Global, name: &str, bytes: &[u8]) -> Result<(), NoMemory>
+    pub fn add(&mut self, name: &str, bytes: &[u8]) -> Result<(), NoMemory>
         ensures added { OnOk result (held_at self.new name.now ≡ Some bytes.now) }
         ensures others { OnOk result ((other : List ℕ) → bytes_eq other name.now ≡ false → held_at self.new other ≡ held_at self.old other) }
         ensures unchanged { OnErr result ((other : List ℕ) → held_at self.new other ≡ held_at self.old other) }
         ensures unread { history self.new ≡ history self.old }
     {
-        let name = String::from_str(alloc, name)?;
-        let body = Body::from_slice(alloc, bytes)?;
+        let name = String::from_str(self.alloc, name)?;
+        let body = Body::from_slice(self.alloc, bytes)?;
         self.contents.insert(name, body)?;
         Ok(())
     }
@@ -55,14 +57,14 @@ impl Files for MemoryFiles {
     ghost state = { files_state };
 
     #[tactic(auto, unfolding(crate::specs::MemoryFiles::answer_of))]
-    fn read(&mut self, alloc: Global, name: &str, max: u64) -> FileAnswer
+    fn read(&mut self, name: &str, max: u64) -> FileAnswer
         ensures answers { Answers result (files_state self.old) (files_state self.new) name.now max }
         ensures exact { result ≢ FileAnswer.NoMemory → result ≡ answer_of self.old name.now max }
         ensures history { history self.new ≡ history_after result name.now (history self.old) }
     {
         let number = self.reads;
         self.reads = self.reads.saturating_add(1);
-        let failed = match String::from_str(alloc, name) {
+        let failed = match String::from_str(self.alloc, name) {
             Ok(failed) => failed,
             Err(_) => return FileAnswer::NoMemory,
         };
@@ -72,7 +74,7 @@ impl Files for MemoryFiles {
             return FileAnswer::Failed;
         }
         match self.contents.get(name) {
-            Some(body) => copy_of(alloc, body, max),
+            Some(body) => copy_of(self.alloc, body, max),
             None => {
                 self.faults = self.faults.saturating_add(1);
                 self.last_failed = Some(failed);

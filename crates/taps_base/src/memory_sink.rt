@@ -6,7 +6,7 @@ use crate::{NoMemory, Sink, SinkAnswer};
 use std::alloc::Global;
 use std::marker::Model;
 
-/// A sink in memory, of fixed capacity, which tells its bytes.
+/// A sink in memory, of fixed capacity, whose bytes are observable.
 #[derive(Drop)]
 pub struct MemorySink {
     taken: Vec<u8>,

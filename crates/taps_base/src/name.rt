@@ -36,8 +36,7 @@ impl Name {
     #[tactic(auto, using(crate::proofs::NameTexts::name_is_text))]
     pub fn read(alloc: Global, text: &[u8]) -> Result<Name, NameError>
         ensures same { IfOk result (λ name. name ≡ text.now) }
-        ensures named { IfOk result (λ _. IsTrue (is_name text.now)) }
-        ensures not { result ≡ Err NameError.NotName → is_name text.now ≡ false }
+        ensures not_name { result ≡ Err NameError.NotName ↔ is_name text.now ≡ false }
     {
         if !is_a_name(text) {
             return Err(NameError::NotName);

@@ -12,9 +12,10 @@ pub(crate) const MOST_TRIES: u32 = 1_000_000;
 /// How many bytes are read at once.
 const PIECE: usize = 65_536;
 
-/// The files of the system, which tell no content.
+/// The files of the system, whose contents no contract sees.
 #[derive(Drop)]
 pub struct RealFiles<R> {
+    alloc: Global,
     system: R,
     buffer: Vec<u8>,
     last_failed: Option<String>,
@@ -32,6 +33,7 @@ impl<R: rt::Files + Drop> RealFiles<R> {
     {
         let buffer = vec![in alloc; 0; PIECE]?;
         Ok(RealFiles {
+            alloc,
             system,
             buffer,
             last_failed: None,
@@ -46,13 +48,13 @@ impl<R: rt::Files> Files for RealFiles<R> {
 
     ghost state = { λ files. real_files_state files };
 
-    fn read(&mut self, alloc: Global, name: &str, max: u64) -> FileAnswer {
+    fn read(&mut self, name: &str, max: u64) -> FileAnswer {
         self.reads = self.reads.saturating_add(1);
-        let failed = match String::from_str(alloc, name) {
+        let failed = match String::from_str(self.alloc, name) {
             Ok(failed) => failed,
             Err(_) => return FileAnswer::NoMemory,
         };
-        let answer = open_and_take(&self.system, alloc, name, &mut self.buffer, max);
+        let answer = open_and_take(&self.system, self.alloc, name, &mut self.buffer, max);
         if let FileAnswer::Failed = answer {
             self.faults = self.faults.saturating_add(1);
             self.last_failed = Some(failed);
@@ -128,7 +130,7 @@ enum Piece {
     NoMemory,
 }
 
-// Reads one piece and puts it behind the bytes.
+// Reads one piece and appends it to the bytes.
 fn take_piece<F: Read>(file: &mut F, piece: &mut [u8], bytes: &mut Vec<u8>) -> Piece
     requires { 0 < length piece.old }
     ensures got { result ≡ Piece.Got → (vec_len bytes.old < vec_len bytes.new) × (vec_len bytes.new ≤ vec_len bytes.old + length piece.old) }

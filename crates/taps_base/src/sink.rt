@@ -12,8 +12,8 @@ pub enum SinkAnswer {
 
 /// Something that takes bytes.
 ///
-/// Contracts see the bytes that were taken where the sink tells them, how often a write failed, and
-/// how many writes were made.
+/// Contracts see the bytes that were taken, where observable, how often a write failed, and how many
+/// writes were made.
 pub trait Sink {
     ghost state: { Self → SinkState };
 

@@ -6,8 +6,8 @@ use crate::real_files::MOST_TRIES;
 use crate::{NoMemory, Sink, SinkAnswer};
 use std::io::{ErrorKind, Stderr, Stdout, Write};
 
-/// A sink over a writer of std, which tells the bytes that the writer tells: standard output and
-/// standard error tell none.
+/// A sink over a writer of std, whose bytes are observable where the writer's are: those of standard
+/// output and standard error are not.
 #[derive(Drop)]
 pub struct StdSink<W: Write> {
     writer: W,

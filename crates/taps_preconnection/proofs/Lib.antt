@@ -1,10 +1,6 @@
-pub mod Refusals
-pub mod Documents
-pub mod KnownKeys
-pub mod Items
+pub mod Listed
 pub mod PropertySteps
 pub mod HostSteps
 pub mod MessageSteps
-pub mod Readings
 pub mod TableLimits
 pub mod Within

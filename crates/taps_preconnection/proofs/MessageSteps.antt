@@ -2,10 +2,11 @@
 use Rattle.std.proofs.Common.{◌≡◌, ℕ, ◌+◌, ◌<◌, ◌≤◌, List, [], length, take, drop, get_or, Result, Ok, refl, sym, ◌∙◌}
 use Rattle.std.proofs.lemmas.List.{drop_all, drop_more, take_more}
 use Rattle.taps_preconnection.specs.Messages.{message_fits, messages_fit}
-use Rattle.taps_preconnection.specs.Refusals.{◌>>=◌, Refuses}
+use Rattle.taps_base.specs.Results.{◌>>=◌}
+use Rattle.taps_table.specs.Refusals.{Refuses}
 use Rattle.taps_preconnection.specs.declared.message.MessageSpec.{MessageSpec}
-use Rattle.taps_preconnection.specs.declared.pre_error.PreError.{PreError}
-use Rattle.taps_preconnection.proofs.Refusals.{refuses_on}
+use Rattle.taps_table.specs.declared.pre_error.PreError.{PreError}
+use Rattle.taps_table.proofs.Refusals.{refuses_on}
 
 module _ (clones index : ℕ) (all : List MessageSpec) (m d : MessageSpec) (total : Result (Unit {0}) PreError) where
   here : index < length all → m ≡ get_or all index d → messages_fit clones (take index all) (drop index all) ≡ total

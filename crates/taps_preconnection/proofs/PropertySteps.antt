@@ -5,9 +5,10 @@ use Rattle.toml.specs.Data.{Members}
 use Rattle.taps_property.specs.Properties.{Key, listed_keys}
 use Rattle.taps_property.specs.declared.property.Property.{Property}
 use Rattle.taps_preconnection.specs.PropertyTables.{Setter, property_at, properties_at}
-use Rattle.taps_preconnection.specs.Refusals.{◌>>=◌, Refuses}
-use Rattle.taps_preconnection.specs.declared.pre_error.PreError.{PreError}
-use Rattle.taps_preconnection.proofs.Refusals.{refuses_on}
+use Rattle.taps_base.specs.Results.{◌>>=◌}
+use Rattle.taps_table.specs.Refusals.{Refuses}
+use Rattle.taps_table.specs.declared.pre_error.PreError.{PreError}
+use Rattle.taps_table.proofs.Refusals.{refuses_on}
 
 abbrev pub key_at : Property → Key
 key_at p = record { name = p.0.now; kind = p.1 }

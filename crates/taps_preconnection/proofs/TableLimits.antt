@@ -4,16 +4,19 @@ use Rattle.std.specs.Prelude.{unwrap_or, nat_le, ◌||◌, ◌==◌, ◌+◌, le
 use Rattle.toml.specs.Data.{Members}
 use Rattle.taps_base.specs.Lists.{ListState}
 use Rattle.taps_preconnection.specs.Exchanges.{is_initiate, default_exchange, exchange_rules, exchange_at}
-use Rattle.taps_preconnection.specs.Keys.{Keys, key, ◌&◌, key_text, keys_of, rule}
+use Rattle.taps_table.specs.Keys.{Keys, key, ◌&◌, keys_of, rule}
+use Rattle.taps_table.specs.Places.{key_text}
 use Rattle.taps_preconnection.specs.Race.{default_race, race_at}
-use Rattle.taps_preconnection.specs.Refusals.{◌>>=◌}
-use Rattle.taps_preconnection.specs.Values.{number_of, word_of, array_of, each}
-use Rattle.taps_preconnection.specs.Words.{mode_word, role_word}
+use Rattle.taps_base.specs.Results.{◌>>=◌}
+use Rattle.taps_table.specs.Values.{number_of, array_of, each}
+use Rattle.taps_table.specs.Words.{word_of}
+use Rattle.taps_preconnection.specs.Words.{mode_words, role_words}
 use Rattle.taps_preconnection.specs.declared.exchange.Exchange.{Exchange}
 use Rattle.taps_preconnection.specs.declared.exchange.RunRole.{RunRole}
 use Rattle.taps_preconnection.specs.declared.race.Mode.{Mode}
 use Rattle.taps_preconnection.specs.declared.race.RacePlan.{RacePlan}
-use Rattle.taps_preconnection.proofs.Readings.{IsFrom, both_read, ok_same, first_read, second_read, keys_read, some_from, from_default}
+use Rattle.taps_base.proofs.Results.{both_ok, ok_same}
+use Rattle.taps_table.proofs.Readings.{IsFrom, first_read, second_read, keys_read, some_from, from_default}
 
 -- the limits of a race
 pub record IsRaceWithin (race : RacePlan) : Type 0 where
@@ -25,7 +28,7 @@ pub default_within : IsRaceWithin default_race
 default_within = record { delay = (omega arith, omega arith); timeout = (omega arith, omega arith); cancel = λ c e. cc }
 
 abbrev mode_key : Keys (Option Mode)
-mode_key = key (codes "mode") (word_of mode_word)
+mode_key = key (codes "mode") (word_of mode_words)
 
 abbrev number_key : List ℕ → ℕ → ℕ → Keys (Option ℕ)
 number_key name low high = key name (number_of low high)
@@ -38,7 +41,7 @@ race_within path ms race h =
     let cancel_key = number_key (codes "cancel_ms") 0 3600000 in
     let two = mode_key & delay_key in
     let three = two & timeout_key in
-    let (t, given, made) = both_read (keys_of (three & cancel_key) path ms) (λ t. Ok (record {
+    let (t, given, made) = both_ok (keys_of (three & cancel_key) path ms) (λ t. Ok (record {
       mode = unwrap_or t.0.0.0 default_race.mode;
       delay_ms = unwrap_or t.0.0.1 default_race.delay_ms;
       timeout_ms = unwrap_or t.0.1 default_race.timeout_ms;
@@ -57,43 +60,82 @@ race_within path ms race h =
 rules_keep : (path : List ℕ) (exchange kept : Exchange) → exchange_rules path exchange ≡ Ok kept → exchange ≡ kept
 unfolding exchange_rules
 rules_keep path exchange kept h =
-    let (one, clones, more) = both_read (rule (key_text path (codes "clones")) (is_initiate exchange.role || (exchange.clones == 0)))
+    let (one, clones, more) = both_ok (rule (key_text path (codes "clones")) (is_initiate exchange.role || (exchange.clones == 0)))
     (λ _. rule (key_text path (codes "priorities")) (nat_le (length exchange.priorities.items) (exchange.clones + 1)) >>= λ _. Ok exchange) kept h in
-    let (two, priorities, made) = both_read (rule (key_text path (codes "priorities")) (nat_le (length exchange.priorities.items) (exchange.clones + 1))) (λ _. Ok exchange) kept more in
+    let (two, priorities, made) = both_ok (rule (key_text path (codes "priorities")) (nat_le (length exchange.priorities.items) (exchange.clones + 1))) (λ _. Ok exchange) kept more in
     ok_same exchange kept made
 
 abbrev role_key : Keys (Option RunRole)
-role_key = key (codes "role") (word_of role_word)
+role_key = key (codes "role") (word_of role_words)
 
 abbrev priorities_key : Keys (Option (ListState ℕ))
 priorities_key = key (codes "priorities") (array_of 16 (each (number_of 0 4294967295)))
 
-pub piece_within : (path : List ℕ) (ms : Members) (exchange : Exchange) → exchange_at path ms ≡ Ok exchange → IsFrom 1 65536 exchange.piece
+-- what is read at the keys of a table `exchange`
+abbrev ExchangeKeys : Type 0
+ExchangeKeys = ((((((Option RunRole × Option ℕ) × Option ℕ) × Option ℕ) × Option ℕ) × Option ℕ) × Option (ListState ℕ)) × Option ℕ
+
+-- the exchange that they give
+abbrev exchange_from : ExchangeKeys → Exchange
+exchange_from t = record {
+  role = unwrap_or t.0.0.0.0.0.0.0 default_exchange.role;
+  expect = unwrap_or t.0.0.0.0.0.0.1 default_exchange.expect;
+  deadline_ms = unwrap_or t.0.0.0.0.0.1 default_exchange.deadline_ms;
+  piece = unwrap_or t.0.0.0.0.1 default_exchange.piece;
+  part = t.0.0.0.1;
+  clones = unwrap_or t.0.0.1 default_exchange.clones;
+  priorities = unwrap_or t.0.1 default_exchange.priorities;
+  connections = unwrap_or t.1 default_exchange.connections;
+}
+
+-- the limits of an exchange
+pub record IsExchangeWithin (exchange : Exchange) : Type 0 where
+  pub expect : IsFrom 0 256 exchange.expect
+  pub deadline : IsFrom 1 3600000 exchange.deadline_ms
+  pub piece : IsFrom 1 65536 exchange.piece
+  pub part : (p : ℕ) → exchange.part ≡ Some p → IsFrom 1 1048576 p
+  pub clones : IsFrom 0 15 exchange.clones
+  pub connections : IsFrom 1 16 exchange.connections
+
+pub default_exchange_within : IsExchangeWithin default_exchange
+default_exchange_within = record {
+  expect = (omega arith, omega arith);
+  deadline = (omega arith, omega arith);
+  piece = (omega arith, omega arith);
+  part = λ p e. cc;
+  clones = (omega arith, omega arith);
+  connections = (omega arith, omega arith);
+}
+
+pub exchange_within : (path : List ℕ) (ms : Members) (exchange : Exchange) → exchange_at path ms ≡ Ok exchange → IsExchangeWithin exchange
 unfolding exchange_at
-piece_within path ms exchange h =
+exchange_within path ms exchange h =
+    let expect_key = number_key (codes "expect") 0 256 in
+    let deadline_key = number_key (codes "deadline_ms") 1 3600000 in
     let piece_key = number_key (codes "piece") 1 65536 in
-    let three = role_key & number_key (codes "expect") 0 256 & number_key (codes "deadline_ms") 1 3600000 in
-    let four = three & piece_key in
     let part_key = number_key (codes "part") 1 1048576 in
     let clones_key = number_key (codes "clones") 0 15 in
     let connections_key = number_key (codes "connections") 1 16 in
+    let two = role_key & expect_key in
+    let three = two & deadline_key in
+    let four = three & piece_key in
     let five = four & part_key in
     let six = five & clones_key in
     let seven = six & priorities_key in
-    let (t, given, made) = both_read (keys_of (seven & connections_key) path ms) (λ t. exchange_rules path (record {
-      role = unwrap_or t.0.0.0.0.0.0.0 default_exchange.role;
-      expect = unwrap_or t.0.0.0.0.0.0.1 default_exchange.expect;
-      deadline_ms = unwrap_or t.0.0.0.0.0.1 default_exchange.deadline_ms;
-      piece = unwrap_or t.0.0.0.0.1 default_exchange.piece;
-      part = t.0.0.0.1;
-      clones = unwrap_or t.0.0.1 default_exchange.clones;
-      priorities = unwrap_or t.0.1 default_exchange.priorities;
-      connections = unwrap_or t.1 default_exchange.connections;
-    })) exchange h in
-    let eight_read = keys_read (seven & connections_key) path ms t given in
-    let seven_read = first_read seven connections_key path ms t eight_read in
-    let six_read = first_read six priorities_key path ms t.0 seven_read in
-    let five_read = first_read five clones_key path ms t.0.0 six_read in
-    let four_read = first_read four part_key path ms t.0.0.0 five_read in
-    subst (λ (x : Exchange). IsFrom 1 65536 x.piece) (rules_keep path _ exchange made)
-    (from_default (codes "piece") 1 65536 default_exchange.piece path ms t.0.0.0.0.1 (omega arith, omega arith) (second_read three piece_key path ms t.0.0.0.0 four_read))
+    let (t, given, made) = both_ok (keys_of (seven & connections_key) path ms) (λ t. exchange_rules path (exchange_from t)) exchange h in
+    let e8 = keys_read (seven & connections_key) path ms t given in
+    let e7 = first_read seven connections_key path ms t e8 in
+    let e6 = first_read six priorities_key path ms t.0 e7 in
+    let e5 = first_read five clones_key path ms t.0.0 e6 in
+    let e4 = first_read four part_key path ms t.0.0.0 e5 in
+    let e3 = first_read three piece_key path ms t.0.0.0.0 e4 in
+    let e2 = first_read two deadline_key path ms t.0.0.0.0.0 e3 in
+    let part_read = second_read four part_key path ms t.0.0.0 e5 in
+    subst IsExchangeWithin (rules_keep path (exchange_from t) exchange made) (record {
+      expect = from_default (codes "expect") 0 256 default_exchange.expect path ms t.0.0.0.0.0.0.1 default_exchange_within.expect (second_read role_key expect_key path ms t.0.0.0.0.0.0 e2);
+      deadline = from_default (codes "deadline_ms") 1 3600000 default_exchange.deadline_ms path ms t.0.0.0.0.0.1 default_exchange_within.deadline (second_read two deadline_key path ms t.0.0.0.0.0 e3);
+      piece = from_default (codes "piece") 1 65536 default_exchange.piece path ms t.0.0.0.0.1 default_exchange_within.piece (second_read three piece_key path ms t.0.0.0.0 e4);
+      part = λ p e. some_from (codes "part") 1 1048576 path ms p (rw e at part_read);
+      clones = from_default (codes "clones") 0 15 default_exchange.clones path ms t.0.0.1 default_exchange_within.clones (second_read five clones_key path ms t.0.0 e6);
+      connections = from_default (codes "connections") 1 16 default_exchange.connections path ms t.1 default_exchange_within.connections (second_read seven connections_key path ms t e8);
+    })

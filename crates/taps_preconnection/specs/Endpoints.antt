@@ -7,13 +7,16 @@ use Rattle.taps_endpoint.specs.declared.address.Ip.{Ip}
 use Rattle.taps_endpoint.specs.declared.local.Local.{Local}
 use Rattle.taps_endpoint.specs.declared.remote.Remote.{Remote}
 use Rattle.taps_endpoint.specs.declared.remote.Remote.TheVariants.{Literal, Host}
-use Rattle.taps_preconnection.specs.Documents.{count_members}
-use Rattle.taps_preconnection.specs.Keys.{Reader, key, ◌&◌, keys_of, key_text, in_byte_order}
-use Rattle.taps_preconnection.specs.Refusals.{◌>>=◌}
-use Rattle.taps_preconnection.specs.Values.{number_of, name_at, name_of, address_of, ip_of, array_of, each}
-use Rattle.taps_preconnection.specs.declared.pre_error.PreError.{PreError}
-use Rattle.taps_preconnection.specs.declared.pre_error.PreError.TheVariants.{OutOfRange, TooMany}
+use Rattle.taps_table.specs.Documents.{count_members}
+use Rattle.taps_table.specs.Keys.{key, ◌&◌, keys_of, in_byte_order}
+use Rattle.taps_table.specs.Places.{key_text}
+use Rattle.taps_base.specs.Results.{◌>>=◌}
+use Rattle.taps_table.specs.Values.{Reader, number_of, name_at, name_of, array_of, each}
+use Rattle.taps_preconnection.specs.Texts.{address_of, ip_of}
+use Rattle.taps_table.specs.declared.pre_error.PreError.{PreError}
+use Rattle.taps_table.specs.declared.pre_error.PreError.TheVariants.{OutOfRange, TooMany}
 
+-- a table `local`
 unfoldable pub local_at : List ℕ → Members → Result Local PreError
 local_at path ms = do
   (interface, address) ← keys_of (
@@ -32,6 +35,7 @@ remote_from path (Some address) None None = Ok (Literal address)
 remote_from path None (Some host) (Some port) = Ok (Host host port)
 remote_from path address host port = Err (OutOfRange path)
 
+-- a table `remote`
 unfoldable pub remote_at : List ℕ → Members → Result Remote PreError
 remote_at path ms = do
   ((address, host), port) ← keys_of (
@@ -41,7 +45,7 @@ remote_at path ms = do
       ) path ms
   remote_from path address host port
 
--- the hosts before, and one more behind them, whose key is a name
+-- the hosts before, and one more after them, whose key is a name
 unfoldable pub host_at : List ℕ → List ℕ → Data → List (List ℕ × List Ip) → Result (List (List ℕ × List Ip)) PreError
 host_at path key d before = do
   name ← name_at (key_text path key) key

@@ -1,26 +1,27 @@
--- The meaning of a file: its Preconnection, or the first refusal (this project's own format, in TOML).
+-- The meaning of a file: its Preconnection, or the first refusal (a local format, in TOML).
 use Rattle.std.specs.Prelude.{ℕ, List, [], ◌∷◌, Option, Result, Ok, Err, codes, unwrap_or}
 use Rattle.toml.specs.Data.{Members}
 use Rattle.taps_base.specs.Lists.{filled}
 use Rattle.taps_endpoint.specs.declared.remote.Remote.{Remote}
 use Rattle.taps_property.specs.Connections.{default_connection}
 use Rattle.taps_property.specs.declared.profile.Profile.{Profile}
-use Rattle.taps_preconnection.specs.Documents.{document}
+use Rattle.taps_table.specs.Documents.{document}
 use Rattle.taps_preconnection.specs.Endpoints.{local_at, remote_at, hosts_at}
 use Rattle.taps_preconnection.specs.Exchanges.{exchange_at, default_exchange}
-use Rattle.taps_preconnection.specs.Keys.{known, key, ◌&◌, keys_of}
+use Rattle.taps_table.specs.Keys.{known, key, ◌&◌, keys_of}
 use Rattle.taps_preconnection.specs.Messages.{message_at, messages_fit}
 use Rattle.taps_preconnection.specs.Paths.{path_at, some_path}
 use Rattle.taps_preconnection.specs.PropertySets.{connection_at, selections_at, unselected, is_replayable}
 use Rattle.taps_preconnection.specs.Race.{race_at, default_race}
-use Rattle.taps_preconnection.specs.Refusals.{◌>>=◌}
-use Rattle.taps_preconnection.specs.Values.{number_of, name_of, word_of, array_of, each, table_of}
-use Rattle.taps_preconnection.specs.Words.{profile_word}
+use Rattle.taps_base.specs.Results.{◌>>=◌}
+use Rattle.taps_table.specs.Values.{number_of, name_of, array_of, each, table_of}
+use Rattle.taps_table.specs.Words.{word_of}
+use Rattle.taps_preconnection.specs.Words.{profile_words}
 use Rattle.taps_preconnection.specs.declared.exchange.RunRole.{RunRole}
 use Rattle.taps_preconnection.specs.declared.exchange.RunRole.TheVariants.{Initiate, Listen, Loop}
 use Rattle.taps_preconnection.specs.declared.file.Contents.{Contents}
-use Rattle.taps_preconnection.specs.declared.pre_error.PreError.{PreError}
-use Rattle.taps_preconnection.specs.declared.pre_error.PreError.TheVariants.{NoRemote}
+use Rattle.taps_table.specs.declared.pre_error.PreError.{PreError}
+use Rattle.taps_table.specs.declared.pre_error.PreError.TheVariants.{NoRemote}
 use Rattle.taps_preconnection.specs.declared.preconnection.Preconnection.{Preconnection}
 
 -- the keys of the top table
@@ -29,6 +30,7 @@ top_names =
     codes "format" ∷ codes "profile" ∷ codes "framers" ∷ codes "selection" ∷ codes "connection" ∷ codes "path"
     ∷ codes "local" ∷ codes "remote" ∷ codes "hosts" ∷ codes "race" ∷ codes "message" ∷ codes "exchange" ∷ []
 
+-- the top table has no other key
 unfoldable pub no_other_key : Members → Result (Unit {0}) PreError
 no_other_key ms = keys_of (known top_names) [] ms
 
@@ -37,7 +39,7 @@ unfoldable pub profile_at : Members → Result (Option Profile) PreError
 profile_at ms = do
   (format, profile) ← (
       key (codes "format") (number_of 1 1)
-      & key (codes "profile") (word_of profile_word)
+      & key (codes "profile") (word_of profile_words)
       ).reads [] ms
   Ok profile
 

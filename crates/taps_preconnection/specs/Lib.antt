@@ -1,7 +1,4 @@
-pub mod Refusals
-pub mod Documents
-pub mod Keys
-pub mod Values
+pub mod Texts
 pub mod Words
 pub mod PropertyTables
 pub mod PropertySets

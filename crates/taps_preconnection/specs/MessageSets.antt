@@ -6,6 +6,7 @@ use Rattle.taps_property.specs.declared.kind.NoLimit.TheVariants.{FullCoverage, 
 use Rattle.taps_property.specs.declared.message_props.MessageProps.{MessageProps}
 use Rattle.taps_preconnection.specs.declared.message_set.MessageSet.{MessageSet}
 
+-- how each property of a message is set
 abbrev pub set_table : List (Setting MessageSet)
 set_table =
     setting (codes "msgLifetime") (Limit Infinite) (λ v m. record m { msg_lifetime = Some v })

@@ -1,5 +1,5 @@
--- What a path offers, and where it leads (RFC 9622 sections 6.2.11 and 6.2.12; flags and comparison by name are this
--- project's own).
+-- What a path offers, and where it leads (RFC 9622 sections 6.2.11 and 6.2.12; flags and comparison by name are
+-- local).
 use Rattle.std.specs.Prelude.{ℕ, List, Bool, false, Option, Some, None, bytes_eq, slice_index_or}
 use Rattle.taps_endpoint.specs.declared.address.Family.{Family}
 use Rattle.taps_endpoint.specs.declared.address.Family.TheVariants.{Inet4, Inet6, Unix}
@@ -16,9 +16,11 @@ abbrev pub has_name : Option (List ℕ) → List ℕ → Bool
 has_name None name = false
 has_name (Some own) name = bytes_eq own name
 
+-- the path has this interface
 abbrev pub offers_interface : Path → List ℕ → Bool
 offers_interface path name = has_name (Some path.interface) name
 
+-- the path has this provisioning domain
 abbrev pub offers_pvd : Path → List ℕ → Bool
 offers_pvd path name = has_name path.pvd name
 

@@ -4,6 +4,7 @@ use Rattle.taps_property.specs.declared.role.Role.TheVariants.{Initiate, Listen,
 use Rattle.taps_property.specs.declared.selection.Selection.{Selection}
 use Rattle.taps_preconnection.specs.declared.preconnection.Preconnection.{Preconnection}
 
+-- the selection of a role
 abbrev pub selection_for : Preconnection → Role → Selection
 selection_for pre Initiate = pre.initiating
 selection_for pre Listen = pre.listening

@@ -11,30 +11,35 @@ use Rattle.taps_property.specs.declared.profile.Profile.TheVariants.{ReliableIno
 use Rattle.taps_property.specs.declared.role.Role.{Role}
 use Rattle.taps_property.specs.declared.role.Role.TheVariants.{Initiate, Listen, Rendezvous}
 use Rattle.taps_property.specs.declared.selection.Selection.{Selection}
-use Rattle.taps_preconnection.specs.Keys.{Keys, keys_of}
+use Rattle.taps_table.specs.Keys.{Keys, keys_of}
 use Rattle.taps_preconnection.specs.MessageSets.{set_table}
 use Rattle.taps_preconnection.specs.PropertyTables.{Setter, properties, properties_at}
-use Rattle.taps_preconnection.specs.Refusals.{◌>>=◌}
+use Rattle.taps_base.specs.Results.{◌>>=◌}
 use Rattle.taps_preconnection.specs.declared.message_set.MessageSet.{MessageSet}
-use Rattle.taps_preconnection.specs.declared.pre_error.PreError.{PreError}
+use Rattle.taps_table.specs.declared.pre_error.PreError.{PreError}
 use Rattle.taps_preconnection.specs.declared.selections.Selections.{Selections}
 
--- the properties that each table sets, in order, and how it sets them
+-- the keys of a table `connection`
 unfoldable pub connection_properties : List Key
 connection_properties = keys (settings connection_settings)
 
+-- how a property of a connection is set
 unfoldable pub set_connection : Setter ConnectionProps
 set_connection = set_in (settings connection_table)
 
+-- the keys of a table `selection`
 unfoldable pub selection_properties : List Key
 selection_properties = keys (settings selection_table)
 
+-- how a property of a selection is set
 unfoldable pub set_selection : Setter Selection
 set_selection = set_in (settings selection_table)
 
+-- the keys of a message that are properties
 unfoldable pub message_properties : List Key
 message_properties = keys (settings message_table)
 
+-- how a property of a message is set
 unfoldable pub set_message : Setter MessageSet
 set_message = set_in set_table
 
@@ -63,6 +68,7 @@ selection_keys profile = record {
       Ok (record { initiating = initiating; listening = listening; meeting = meeting });
 }
 
+-- the table `selection`, beside this profile
 abbrev pub selections_at : Option Profile → List ℕ → Members → Result Selections PreError
 selections_at profile = keys_of (selection_keys profile)
 

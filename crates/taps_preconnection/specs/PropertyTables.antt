@@ -12,12 +12,14 @@ use Rattle.taps_property.specs.declared.kind.NoLimit.{NoLimit}
 use Rattle.taps_property.specs.declared.prop_error.PropError.{PropError}
 use Rattle.taps_property.specs.declared.prop_value.PropValue.{PropValue}
 use Rattle.taps_property.specs.declared.prop_value.PropValue.TheVariants as value
-use Rattle.taps_preconnection.specs.Keys.{Reader, Keys, key, ◌&◌, keys_of, key_text, value_at, present, rule}
-use Rattle.taps_preconnection.specs.Refusals.{◌>>=◌}
-use Rattle.taps_preconnection.specs.Values.{flag_of, name_of, word_of, array_of, table_of}
-use Rattle.taps_preconnection.specs.Words.{preference_word, multipath_word, direction_word, scheduler_word, capacity_word, policy_word}
-use Rattle.taps_preconnection.specs.declared.pre_error.PreError.{PreError}
-use Rattle.taps_preconnection.specs.declared.pre_error.PreError.TheVariants.{WrongKind, OutOfRange}
+use Rattle.taps_table.specs.Keys.{Keys, key, ◌&◌, keys_of, value_at, present, rule}
+use Rattle.taps_table.specs.Places.{key_text}
+use Rattle.taps_base.specs.Results.{◌>>=◌}
+use Rattle.taps_table.specs.Values.{Reader, flag_of, name_of, array_of, table_of}
+use Rattle.taps_table.specs.Words.{word_of}
+use Rattle.taps_preconnection.specs.Words.{preference_words, multipath_words, direction_words, scheduler_words, capacity_words, policy_words}
+use Rattle.taps_table.specs.declared.pre_error.PreError.{PreError}
+use Rattle.taps_table.specs.declared.pre_error.PreError.TheVariants.{WrongKind, OutOfRange}
 
 -- a name that stands in no earlier entry
 unfoldable pub fresh_name : List Entry → Reader (List ℕ)
@@ -26,11 +28,12 @@ fresh_name before path d = do
   _ ← rule path (not (is_taken before name))
   Ok name
 
+-- an entry of a collection
 unfoldable pub entry_at : List Entry → List ℕ → Members → Result Entry PreError
 entry_at before path ms = do
   (name, preference) ← keys_of (
       key (codes "name") (fresh_name before)
-      & key (codes "preference") (word_of preference_word)
+      & key (codes "preference") (word_of preference_words)
       ) path ms
   name ← present path name
   preference ← present path preference
@@ -53,20 +56,21 @@ limit_of no_limit path (integer (negsuc n)) = Err (OutOfRange path)
 limit_of no_limit path (string text) = if bytes_eq text (word no_limit) then Ok None else Err (OutOfRange path)
 limit_of no_limit path d = Err (WrongKind path)
 
+-- a value of one kind as a value of a property
 abbrev pub as_value : {A : Type 0} → (A → PropValue) → Reader A → Reader PropValue
 as_value value reads path d = reads path d >>= λ x. Ok (value x)
 
 -- a value of this kind
 unfoldable pub property_of : Kind → Reader PropValue
-property_of kind.Preference = as_value value.Pref (word_of preference_word)
+property_of kind.Preference = as_value value.Pref (word_of preference_words)
 property_of kind.Flag = as_value value.Flag flag_of
 property_of kind.Number = as_value value.Number natural_of
 property_of (kind.Limit no_limit) = as_value value.Limit (limit_of no_limit)
-property_of kind.Multipath = as_value value.Multipath (word_of multipath_word)
-property_of kind.Direction = as_value value.Direction (word_of direction_word)
-property_of kind.Scheduler = as_value value.Scheduler (word_of scheduler_word)
-property_of kind.Capacity = as_value value.Capacity (word_of capacity_word)
-property_of kind.Policy = as_value value.Policy (word_of policy_word)
+property_of kind.Multipath = as_value value.Multipath (word_of multipath_words)
+property_of kind.Direction = as_value value.Direction (word_of direction_words)
+property_of kind.Scheduler = as_value value.Scheduler (word_of scheduler_words)
+property_of kind.Capacity = as_value value.Capacity (word_of capacity_words)
+property_of kind.Policy = as_value value.Policy (word_of policy_words)
 property_of kind.State = λ path d. Err (WrongKind path)
 property_of kind.Entries = as_value value.Entries collection_of
 
@@ -79,6 +83,7 @@ abbrev pub taken_at : {Set : Type 0} → List ℕ → Result Set PropError → R
 taken_at path (Ok set) = Ok set
 taken_at path (Err e) = Err (OutOfRange path)
 
+-- the set with this value, if there is one
 abbrev pub set_if_there : {Set : Type 0} → Setter Set → Set → List ℕ → List ℕ → Option PropValue → Result Set PreError
 set_if_there sets set path name None = Ok set
 set_if_there sets set path name (Some value) = taken_at (key_text path name) (sets set name value)

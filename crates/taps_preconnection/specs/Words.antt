@@ -1,5 +1,5 @@
--- The words of the file, and what each stands for (this project's own).
-use Rattle.std.specs.Prelude.{ℕ, List, Option, Some, None, codes, bytes_eq, if◌then◌else◌}
+-- The words of the file, and what each stands for (local).
+use Rattle.std.specs.Prelude.{ℕ, List, [], ◌∷◌, codes}
 use Rattle.taps_property.specs.declared.preference.Preference.{Preference}
 use Rattle.taps_property.specs.declared.preference.Preference.TheVariants as preference
 use Rattle.taps_property.specs.declared.profile.Profile.{Profile}
@@ -21,76 +21,86 @@ use Rattle.taps_preconnection.specs.declared.race.Mode.TheVariants as race
 use Rattle.taps_preconnection.specs.declared.exchange.RunRole.{RunRole}
 use Rattle.taps_preconnection.specs.declared.exchange.RunRole.TheVariants as exchange
 
-unfoldable pub preference_word : List ℕ → Option Preference
-preference_word word =
-    if bytes_eq word (codes "require") then Some preference.Require
-    else if bytes_eq word (codes "prefer") then Some preference.Prefer
-    else if bytes_eq word (codes "no-preference") then Some preference.NoPreference
-    else if bytes_eq word (codes "avoid") then Some preference.Avoid
-    else if bytes_eq word (codes "prohibit") then Some preference.Prohibit
-    else None
+-- the words of preferences
+unfoldable pub preference_words : List (List ℕ × Preference)
+preference_words =
+    (codes "require", preference.Require)
+    ∷ (codes "prefer", preference.Prefer)
+    ∷ (codes "no-preference", preference.NoPreference)
+    ∷ (codes "avoid", preference.Avoid)
+    ∷ (codes "prohibit", preference.Prohibit)
+    ∷ []
 
-unfoldable pub profile_word : List ℕ → Option Profile
-profile_word word =
-    if bytes_eq word (codes "reliable-inorder-stream") then Some profile.ReliableInorderStream
-    else if bytes_eq word (codes "reliable-message") then Some profile.ReliableMessage
-    else if bytes_eq word (codes "unreliable-datagram") then Some profile.UnreliableDatagram
-    else None
+-- the words of profiles
+unfoldable pub profile_words : List (List ℕ × Profile)
+profile_words =
+    (codes "reliable-inorder-stream", profile.ReliableInorderStream)
+    ∷ (codes "reliable-message", profile.ReliableMessage)
+    ∷ (codes "unreliable-datagram", profile.UnreliableDatagram)
+    ∷ []
 
-unfoldable pub multipath_word : List ℕ → Option Multipath
-multipath_word word =
-    if bytes_eq word (codes "disabled") then Some multipath.Disabled
-    else if bytes_eq word (codes "active") then Some multipath.Active
-    else if bytes_eq word (codes "passive") then Some multipath.Passive
-    else None
+-- the words of multipath
+unfoldable pub multipath_words : List (List ℕ × Multipath)
+multipath_words =
+    (codes "disabled", multipath.Disabled)
+    ∷ (codes "active", multipath.Active)
+    ∷ (codes "passive", multipath.Passive)
+    ∷ []
 
-unfoldable pub direction_word : List ℕ → Option Direction
-direction_word word =
-    if bytes_eq word (codes "bidirectional") then Some direction.Bidirectional
-    else if bytes_eq word (codes "unidirectional-send") then Some direction.UnidirectionalSend
-    else if bytes_eq word (codes "unidirectional-receive") then Some direction.UnidirectionalReceive
-    else None
+-- the words of directions
+unfoldable pub direction_words : List (List ℕ × Direction)
+direction_words =
+    (codes "bidirectional", direction.Bidirectional)
+    ∷ (codes "unidirectional-send", direction.UnidirectionalSend)
+    ∷ (codes "unidirectional-receive", direction.UnidirectionalReceive)
+    ∷ []
 
-unfoldable pub scheduler_word : List ℕ → Option Scheduler
-scheduler_word word =
-    if bytes_eq word (codes "weighted-fair-queueing") then Some scheduler.WeightedFairQueueing
-    else if bytes_eq word (codes "first-come-first-served") then Some scheduler.FirstComeFirstServed
-    else None
+-- the words of schedulers
+unfoldable pub scheduler_words : List (List ℕ × Scheduler)
+scheduler_words =
+    (codes "weighted-fair-queueing", scheduler.WeightedFairQueueing)
+    ∷ (codes "first-come-first-served", scheduler.FirstComeFirstServed)
+    ∷ []
 
-unfoldable pub capacity_word : List ℕ → Option Capacity
-capacity_word word =
-    if bytes_eq word (codes "default") then Some capacity.Default
-    else if bytes_eq word (codes "scavenger") then Some capacity.Scavenger
-    else if bytes_eq word (codes "low-latency-interactive") then Some capacity.LowLatencyInteractive
-    else if bytes_eq word (codes "low-latency-non-interactive") then Some capacity.LowLatencyNonInteractive
-    else if bytes_eq word (codes "constant-rate-streaming") then Some capacity.ConstantRateStreaming
-    else if bytes_eq word (codes "capacity-seeking") then Some capacity.CapacitySeeking
-    else None
+-- the words of capacity profiles
+unfoldable pub capacity_words : List (List ℕ × Capacity)
+capacity_words =
+    (codes "default", capacity.Default)
+    ∷ (codes "scavenger", capacity.Scavenger)
+    ∷ (codes "low-latency-interactive", capacity.LowLatencyInteractive)
+    ∷ (codes "low-latency-non-interactive", capacity.LowLatencyNonInteractive)
+    ∷ (codes "constant-rate-streaming", capacity.ConstantRateStreaming)
+    ∷ (codes "capacity-seeking", capacity.CapacitySeeking)
+    ∷ []
 
-unfoldable pub policy_word : List ℕ → Option Policy
-policy_word word =
-    if bytes_eq word (codes "handover") then Some policy.Handover
-    else if bytes_eq word (codes "interactive") then Some policy.Interactive
-    else if bytes_eq word (codes "aggregate") then Some policy.Aggregate
-    else None
+-- the words of multipath policies
+unfoldable pub policy_words : List (List ℕ × Policy)
+policy_words =
+    (codes "handover", policy.Handover)
+    ∷ (codes "interactive", policy.Interactive)
+    ∷ (codes "aggregate", policy.Aggregate)
+    ∷ []
 
-unfoldable pub family_word : List ℕ → Option Family
-family_word word =
-    if bytes_eq word (codes "inet4") then Some family.Inet4
-    else if bytes_eq word (codes "inet6") then Some family.Inet6
-    else if bytes_eq word (codes "unix") then Some family.Unix
-    else None
+-- the words of address families
+unfoldable pub family_words : List (List ℕ × Family)
+family_words =
+    (codes "inet4", family.Inet4)
+    ∷ (codes "inet6", family.Inet6)
+    ∷ (codes "unix", family.Unix)
+    ∷ []
 
-unfoldable pub mode_word : List ℕ → Option Mode
-mode_word word =
-    if bytes_eq word (codes "simultaneous") then Some race.Simultaneous
-    else if bytes_eq word (codes "staggered") then Some race.Staggered
-    else if bytes_eq word (codes "failover") then Some race.Failover
-    else None
+-- the words of modes of a race
+unfoldable pub mode_words : List (List ℕ × Mode)
+mode_words =
+    (codes "simultaneous", race.Simultaneous)
+    ∷ (codes "staggered", race.Staggered)
+    ∷ (codes "failover", race.Failover)
+    ∷ []
 
-unfoldable pub role_word : List ℕ → Option RunRole
-role_word word =
-    if bytes_eq word (codes "initiate") then Some exchange.Initiate
-    else if bytes_eq word (codes "listen") then Some exchange.Listen
-    else if bytes_eq word (codes "loop") then Some exchange.Loop
-    else None
+-- the words of roles of a run
+unfoldable pub role_words : List (List ℕ × RunRole)
+role_words =
+    (codes "initiate", exchange.Initiate)
+    ∷ (codes "listen", exchange.Listen)
+    ∷ (codes "loop", exchange.Loop)
+    ∷ []

@@ -1,11 +1,9 @@
 ghost use Rattle.taps_preconnection.specs.PropertySets.{connection_properties, set_connection, connection_at};
 
-use crate::PreError;
-use crate::keys::read_keys;
-use crate::kind::FromTable;
 use crate::property_table::{Properties, PropertySet};
 use std::alloc::Global;
 use taps_property::{ConnectionProps, PropError, PropValue, Property};
+use taps_table::{FromTable, Place, PreError, read_keys};
 use toml::Table;
 
 impl PropertySet for ConnectionProps {
@@ -36,10 +34,10 @@ impl FromTable for ConnectionTable {
     fn read_table(
         &self,
         alloc: Global,
-        path: &str,
+        place: &Place<'_>,
         table: &Table,
     ) -> Result<ConnectionProps, PreError> {
         let start = ConnectionProps::defaults();
-        read_keys(alloc, path, table, &Properties { start })
+        read_keys(alloc, place, table, &Properties { start })
     }
 }

@@ -1,16 +1,15 @@
 ghost use Rattle.std.specs.Prelude.{◌≡◌};
 ghost use Rattle.toml.specs.View.{table_view};
-ghost use Rattle.taps_preconnection.specs.Refusals.{Gives};
-ghost use Rattle.taps_preconnection.specs.Words.{role_word};
+ghost use Rattle.taps_table.specs.Places.{place_text};
+ghost use Rattle.taps_table.specs.Refusals.{Gives};
+ghost use Rattle.taps_preconnection.specs.Words.{role_words};
 ghost use Rattle.taps_preconnection.specs.Exchanges.{is_initiate, default_exchange, exchange_rules, exchange_at};
 
-use crate::array::{ArrayOf, Each};
-use crate::key::key_rule;
-use crate::kind::{FromTable, Number};
-use crate::word::{Listed, Word};
-use crate::{PreError, read};
 use std::alloc::Global;
 use taps_base::List;
+use taps_table::{
+    ArrayOf, Each, FromTable, Number, Place, PreError, Word, WordList, key_rule, read, read_keys,
+};
 use toml::Table;
 
 /// What a run does with its Preconnection.
@@ -59,17 +58,22 @@ impl Exchange {
     }
 }
 
-impl Listed for RunRole {
-    ghost listed = { role_word };
+/// The words of roles of a run.
+#[derive(Clone, Copy, Drop)]
+pub struct Roles;
 
-    #[tactic(auto, unfolding(crate::specs::Words::role_word))]
-    fn from_word(word: &str) -> Option<RunRole> {
-        match word {
-            "initiate" => Some(RunRole::Initiate),
-            "listen" => Some(RunRole::Listen),
-            "loop" => Some(RunRole::Loop),
-            _ => None,
-        }
+impl WordList for Roles {
+    type Value = RunRole;
+
+    ghost words = { role_words };
+
+    #[tactic(auto, unfolding(crate::specs::Words::role_words))]
+    fn words() -> &'static [(&'static str, RunRole)] {
+        &[
+            ("initiate", RunRole::Initiate),
+            ("listen", RunRole::Listen),
+            ("loop", RunRole::Loop),
+        ]
     }
 }
 
@@ -82,10 +86,15 @@ impl FromTable for ExchangeTable {
 
     ghost at = { λ _. exchange_at };
 
-    #[tactic(auto, unfolding(crate::specs::Exchanges::exchange_at, crate::specs::Keys::keys_of))]
-    fn read_table(&self, alloc: Global, path: &str, table: &Table) -> Result<Exchange, PreError> {
-        read! { read_keys(alloc, path, table);
-            role = "role": Word::<RunRole>::new(),
+    #[tactic(auto, unfolding(crate::specs::Exchanges::exchange_at, taps_table::specs::Keys::keys_of))]
+    fn read_table(
+        &self,
+        alloc: Global,
+        place: &Place<'_>,
+        table: &Table,
+    ) -> Result<Exchange, PreError> {
+        read! { read_keys(alloc, place, table);
+            role = "role": Word::<Roles>::new(),
             expect = "expect": Number { low: 0, high: 256 },
             deadline = "deadline_ms": Number { low: 1, high: 3600000 },
             piece = "piece": Number { low: 1, high: 65536 },
@@ -105,7 +114,7 @@ impl FromTable for ExchangeTable {
             priorities: priorities.unwrap_or(default.priorities),
             connections: connections.unwrap_or(default.connections),
         };
-        keep_rules(alloc, path, exchange)
+        keep_rules(alloc, place, exchange)
     }
 }
 
@@ -120,12 +129,12 @@ fn is_initiate(role: RunRole) -> bool
 
 // Only the role `initiate` has clones, and each priority is one of a member that there may be.
 #[tactic(auto, unfolding(crate::specs::Exchanges::exchange_rules))]
-fn keep_rules(alloc: Global, path: &str, exchange: Exchange) -> Result<Exchange, PreError>
-    ensures { Gives result (exchange_rules path.now exchange) }
+fn keep_rules(alloc: Global, place: &Place<'_>, exchange: Exchange) -> Result<Exchange, PreError>
+    ensures { Gives result (exchange_rules (place_text place.now) exchange) }
 {
     let no_more = is_initiate(exchange.role) || exchange.clones == 0;
-    key_rule(alloc, path, "clones", no_more)?;
+    key_rule(alloc, place, "clones", no_more)?;
     let few = exchange.priorities.len() as u128 <= exchange.clones as u128 + 1;
-    key_rule(alloc, path, "priorities", few)?;
+    key_rule(alloc, place, "priorities", few)?;
     Ok(exchange)
 }

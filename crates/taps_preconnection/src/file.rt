@@ -1,29 +1,28 @@
-ghost use Rattle.std.specs.Prelude.{◌≡◌, ◌≤◌, IfOk, length};
+ghost use Rattle.std.specs.Prelude.{◌≡◌, IfOk};
 ghost use Rattle.toml.specs.View.{table_view};
 ghost use Rattle.taps_preconnection.specs.Limits.{IsWithin};
-ghost use Rattle.taps_preconnection.specs.Refusals.{Gives};
+ghost use Rattle.taps_table.specs.Refusals.{Gives};
 ghost use Rattle.taps_preconnection.specs.File.{no_other_key, profile_at, tables_at, contents_at, needs_remote, with_defaults, consistent, preconnection_of};
 
-use crate::array::{ArrayOf, Each};
 use crate::connection::ConnectionTable;
-use crate::document::read_document;
 use crate::exchange::ExchangeTable;
 use crate::hosts::HostTable;
-use crate::keys::{Names, read_keys};
-use crate::kind::{Number, Tabled};
 use crate::local::LocalTable;
 use crate::message::{MessageTable, messages_fit};
 use crate::path::{PathTable, some_path};
 use crate::race::RaceTable;
 use crate::remote::RemoteTable;
 use crate::selections::{SelectionTable, Selections, is_replayable};
-use crate::text::NameText;
-use crate::word::Word;
-use crate::{Exchange, MessageSpec, Path, PreError, Preconnection, RacePlan, RunRole, read};
+use crate::words::Profiles;
+use crate::{Exchange, MessageSpec, Path, Preconnection, RacePlan, RunRole};
 use std::alloc::Global;
 use taps_base::{List, Name, NoMemory};
 use taps_endpoint::{Hosts, Local, Remote};
 use taps_property::{ConnectionProps, Profile};
+use taps_table::{
+    ArrayOf, Each, NameText, Names, Number, Place, PreError, Tabled, Word, read, read_document,
+    read_keys, read_known,
+};
 use toml::Table;
 
 /// The keys of the top table.
@@ -59,10 +58,9 @@ struct Contents {
 }
 
 /// The Preconnection that the file's bytes give, or the first refusal.
-#[tactic(auto, using(crate::proofs::Within::few_paths, crate::proofs::Within::within))]
+#[tactic(auto, using(crate::proofs::Within::within))]
 pub fn read_preconnection(alloc: Global, bytes: &[u8]) -> Result<Preconnection, PreError>
     ensures meaning { Gives result (preconnection_of bytes.now) }
-    ensures few { IfOk result (λ pre. length pre.paths.items ≤ 8) }
     ensures within { IfOk result IsWithin }
 {
     read_file(alloc, bytes)
@@ -91,16 +89,16 @@ fn read_contents(alloc: Global, table: &Table) -> Result<Contents, PreError>
 fn refuse_other_keys(alloc: Global, table: &Table) -> Result<(), PreError>
     ensures { Gives result (no_other_key (table_view table.now)) }
 {
-    read_keys(alloc, "", table, &Names { names: &NAMES })
+    read_keys(alloc, &Place::Top, table, &Names { names: &NAMES })
 }
 
 #[tactic(auto, unfolding(crate::specs::File::profile_at))]
 fn read_profile(alloc: Global, table: &Table) -> Result<Option<Profile>, PreError>
     ensures { Gives result (profile_at (table_view table.now)) }
 {
-    read! { read_known(alloc, "", table);
+    read! { read_known(alloc, &Place::Top, table);
         _format = "format": Number { low: 1, high: 1 },
-        profile = "profile": Word::<Profile>::new(),
+        profile = "profile": Word::<Profiles>::new(),
     }
     Ok(profile)
 }
@@ -109,7 +107,7 @@ fn read_profile(alloc: Global, table: &Table) -> Result<Option<Profile>, PreErro
 fn read_tables(alloc: Global, table: &Table, profile: Option<Profile>) -> Result<Contents, PreError>
     ensures { Gives result (tables_at profile (table_view table.now)) }
 {
-    read! { read_known(alloc, "", table);
+    read! { read_known(alloc, &Place::Top, table);
         framers = "framers": ArrayOf { most: 8, items: Each { kind: NameText } },
         selections = "selection": Tabled { table: SelectionTable { profile } },
         connection = "connection": Tabled { table: ConnectionTable },

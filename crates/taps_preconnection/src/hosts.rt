@@ -1,17 +1,14 @@
 ghost use Rattle.std.specs.Prelude.{◌≡◌, []};
 ghost use Rattle.toml.specs.View.{view, table_view};
-ghost use Rattle.taps_preconnection.specs.Keys.{in_byte_order};
-ghost use Rattle.taps_preconnection.specs.Refusals.{Gives, Shows};
+ghost use Rattle.taps_table.specs.Keys.{in_byte_order};
+ghost use Rattle.taps_table.specs.Places.{place_text};
+ghost use Rattle.taps_table.specs.Refusals.{Gives, Shows};
 ghost use Rattle.taps_preconnection.specs.Endpoints.{host_at, hosts_after, hosts_at};
 
-use crate::PreError;
-use crate::array::{ArrayOf, Each};
-use crate::key::key_text;
-use crate::kind::{FromTable, Kind};
-use crate::text::{IpText, read_name};
+use crate::text::IpText;
 use std::alloc::Global;
-use taps_base::Body;
 use taps_endpoint::Hosts;
+use taps_table::{ArrayOf, Each, FromTable, Kind, Place, PreError, read_name, too_many};
 use toml::{Table, Value};
 
 /// The most hosts of a table.
@@ -29,24 +26,28 @@ impl FromTable for HostTable {
 
     ghost at = { λ _. hosts_at };
 
-    #[tactic(auto, using(crate::proofs::Documents::count_members_view), unfolding(crate::specs::Endpoints::hosts_at))]
-    fn read_table(&self, alloc: Global, path: &str, table: &Table) -> Result<Hosts, PreError> {
+    #[tactic(auto, using(taps_table::proofs::Documents::count_members_view), unfolding(crate::specs::Endpoints::hosts_at))]
+    fn read_table(
+        &self,
+        alloc: Global,
+        place: &Place<'_>,
+        table: &Table,
+    ) -> Result<Hosts, PreError> {
         let count = table.len() as u64;
         if count > MOST {
-            let path = Body::from_slice(alloc, path.as_bytes())?;
-            return Err(PreError::TooMany(path, count));
+            return too_many(alloc, place, count);
         }
-        read_hosts(alloc, path, table)
+        read_hosts(alloc, place, table)
     }
 }
 
-#[tactic(auto, using(crate::proofs::KnownKeys::ordered), unfolding(crate::specs::Endpoints::hosts_after))]
-fn read_hosts(alloc: Global, path: &str, table: &Table) -> Result<Hosts, PreError>
-    ensures { Gives result (hosts_after path.now (in_byte_order (table_view table.now)) []) }
+#[tactic(auto, using(taps_table::proofs::KnownKeys::ordered), unfolding(crate::specs::Endpoints::hosts_after))]
+fn read_hosts(alloc: Global, place: &Place<'_>, table: &Table) -> Result<Hosts, PreError>
+    ensures { Gives result (hosts_after (place_text place.now) (in_byte_order (table_view table.now)) []) }
 {
     let mut hosts = Hosts::new(alloc);
     for (key, value) in table.iter() {
-        read_host(alloc, path, key.as_str(), value, &mut hosts)?;
+        read_host(alloc, place, key.as_str(), value, &mut hosts)?;
     }
     Ok(hosts)
 }
@@ -54,20 +55,20 @@ fn read_hosts(alloc: Global, path: &str, table: &Table) -> Result<Hosts, PreErro
 #[tactic(auto, unfolding(crate::specs::Endpoints::host_at))]
 fn read_host(
     alloc: Global,
-    path: &str,
+    place: &Place<'_>,
     key: &str,
     value: &Value,
     hosts: &mut Hosts,
 ) -> Result<(), PreError>
-    ensures { Shows (λ _. hosts.new) result (host_at path.now key.now (view value.now) hosts.old) }
+    ensures { Shows (λ _. hosts.new) result (host_at (place_text place.now) key.now (view value.now) hosts.old) }
 {
-    let text = key_text(alloc, path, key)?;
-    let name = read_name(alloc, text.as_str(), key)?;
+    let at = Place::Key(place, key);
+    let name = read_name(alloc, &at, key)?;
     let kind = ArrayOf {
         most: MOST_OF_ONE,
         items: Each { kind: IpText },
     };
-    let ips = kind.read(alloc, text.as_str(), value)?;
-    hosts.put(alloc, name, ips)?;
+    let ips = kind.read(alloc, &at, value)?;
+    hosts.put(name, ips)?;
     Ok(())
 }

@@ -2,31 +2,22 @@
 //! says it.
 #![tactic(auto)]
 
-mod array;
 mod collection;
 mod connection;
-mod document;
 mod exchange;
 mod file;
 mod hosts;
-mod key;
-mod keys;
-mod kind;
 mod local;
 mod message;
 mod message_set;
 mod offers;
 mod path;
-mod pre_error;
 mod preconnection;
 mod property_table;
 mod race;
 mod remote;
 mod selections;
-#[cfg(test)]
-mod tests;
 mod text;
-mod word;
 mod words;
 
 pub use exchange::{Exchange, RunRole};
@@ -34,6 +25,6 @@ pub use file::read_preconnection;
 pub use message::MessageSpec;
 pub use message_set::{MessageSet, apply_set};
 pub use path::Path;
-pub use pre_error::PreError;
 pub use preconnection::Preconnection;
 pub use race::{Mode, RacePlan};
+pub use taps_table::PreError;

@@ -1,10 +1,9 @@
 ghost use Rattle.taps_preconnection.specs.Endpoints.{local_at};
 
-use crate::kind::FromTable;
-use crate::text::{AddressText, NameText};
-use crate::{PreError, read};
+use crate::text::AddressText;
 use std::alloc::Global;
 use taps_endpoint::Local;
+use taps_table::{FromTable, NameText, Place, PreError, read, read_keys};
 use toml::Table;
 
 /// A table `local`.
@@ -16,9 +15,14 @@ impl FromTable for LocalTable {
 
     ghost at = { λ _. local_at };
 
-    #[tactic(auto, unfolding(crate::specs::Endpoints::local_at, crate::specs::Keys::keys_of))]
-    fn read_table(&self, alloc: Global, path: &str, table: &Table) -> Result<Local, PreError> {
-        read! { read_keys(alloc, path, table);
+    #[tactic(auto, unfolding(crate::specs::Endpoints::local_at, taps_table::specs::Keys::keys_of))]
+    fn read_table(
+        &self,
+        alloc: Global,
+        place: &Place<'_>,
+        table: &Table,
+    ) -> Result<Local, PreError> {
+        read! { read_keys(alloc, place, table);
             interface = "interface": NameText,
             address = "address": AddressText,
         }

@@ -1,16 +1,17 @@
 ghost use Rattle.std.specs.Prelude.{◌≡◌, []};
 ghost use Rattle.toml.specs.View.{table_view};
-ghost use Rattle.taps_preconnection.specs.Refusals.{Gives};
+ghost use Rattle.taps_table.specs.Places.{place_text};
+ghost use Rattle.taps_table.specs.Refusals.{Gives};
 ghost use Rattle.taps_preconnection.specs.Messages.{one_of, message_at, has_ended, message_fits, messages_fit};
 
-use crate::key::{item_text, key_rule, rule};
-use crate::kind::{FromTable, Number};
-use crate::pre_error::out_of_range;
+use crate::MessageSet;
 use crate::property_table::Properties;
-use crate::text::{HexText, Text};
-use crate::{MessageSet, PreError, read};
+use crate::text::HexText;
 use std::alloc::Global;
 use taps_base::Body;
+use taps_table::{
+    FromTable, Number, Place, PreError, Text, key_rule, out_of_range, read, read_keys, rule,
+};
 use toml::Table;
 
 /// A message to be sent.
@@ -32,20 +33,20 @@ impl FromTable for MessageTable {
 
     ghost at = { λ _. message_at };
 
-    #[tactic(auto, unfolding(crate::specs::Messages::message_at, crate::specs::Keys::keys_of))]
+    #[tactic(auto, unfolding(crate::specs::Messages::message_at, taps_table::specs::Keys::keys_of))]
     fn read_table(
         &self,
         alloc: Global,
-        path: &str,
+        place: &Place<'_>,
         table: &Table,
     ) -> Result<MessageSpec, PreError> {
-        read! { read_keys(alloc, path, table);
+        read! { read_keys(alloc, place, table);
             text = "text": Text,
             hex = "hex": HexText,
             member = "member": Number { low: 0, high: 15 },
             set: Properties { start: MessageSet::none() },
         }
-        let body = one_of(alloc, path, text, hex)?;
+        let body = one_of(alloc, place, text, hex)?;
         Ok(MessageSpec {
             body,
             member: member.unwrap_or(0),
@@ -57,20 +58,20 @@ impl FromTable for MessageTable {
 // Exactly one of a text and of bytes by their digits.
 fn one_of(
     alloc: Global,
-    path: &str,
+    place: &Place<'_>,
     text: Option<Body>,
     hex: Option<Body>,
 ) -> Result<Body, PreError>
-    ensures { Gives result (one_of path.now text hex) }
+    ensures { Gives result (one_of (place_text place.now) text hex) }
 {
     match text {
         Some(text) => match hex {
             None => Ok(text),
-            Some(_) => out_of_range(alloc, path),
+            Some(_) => out_of_range(alloc, place),
         },
         None => match hex {
             Some(bytes) => Ok(bytes),
-            None => out_of_range(alloc, path),
+            None => out_of_range(alloc, place),
         },
     }
 }
@@ -93,9 +94,10 @@ fn message_fits(
 ) -> Result<(), PreError>
     ensures { Gives result (message_fits clones before.now message.now) }
 {
-    let text = item_text(alloc, "message", before.len())?;
-    key_rule(alloc, text.as_str(), "member", message.member <= clones)?;
-    rule(alloc, text.as_str(), !has_ended(before, message.member))
+    let messages = Place::Key(&Place::Top, "message");
+    let place = Place::Item(&messages, before.len());
+    key_rule(alloc, &place, "member", message.member <= clones)?;
+    rule(alloc, &place, !has_ended(before, message.member))
 }
 
 /// Each message goes to a member that there is, and to none that has ended.

@@ -1,18 +1,16 @@
 ghost use Rattle.std.specs.Prelude.{◌≡◌, Option, IfOk};
 ghost use Rattle.std.specs.List.{list_any};
 ghost use Rattle.toml.specs.View.{table_view};
-ghost use Rattle.taps_preconnection.specs.Refusals.{Gives};
+ghost use Rattle.taps_table.specs.Refusals.{Gives};
 ghost use Rattle.taps_preconnection.specs.Paths.{is_among, reaches, path_at, any_path, some_path};
 
-use crate::array::{ArrayOf, Each};
-use crate::key::present;
-use crate::kind::{Flag, FromTable};
-use crate::text::NameText;
-use crate::word::Word;
-use crate::{PreError, read};
+use crate::words::Families;
 use std::alloc::Global;
 use taps_base::{List, Name, NameError, NoMemory};
 use taps_endpoint::Family;
+use taps_table::{
+    ArrayOf, Each, Flag, FromTable, NameText, Place, PreError, Word, present, read, read_keys,
+};
 use toml::Table;
 
 /// A way out of this host: an interface, and a provisioning domain that it belongs to.
@@ -39,15 +37,20 @@ impl FromTable for PathTable {
 
     ghost at = { λ _. path_at };
 
-    #[tactic(auto, unfolding(crate::specs::Paths::path_at, crate::specs::Keys::keys_of))]
-    fn read_table(&self, alloc: Global, path: &str, table: &Table) -> Result<Path, PreError> {
-        read! { read_keys(alloc, path, table);
+    #[tactic(auto, unfolding(crate::specs::Paths::path_at, taps_table::specs::Keys::keys_of))]
+    fn read_table(
+        &self,
+        alloc: Global,
+        place: &Place<'_>,
+        table: &Table,
+    ) -> Result<Path, PreError> {
+        read! { read_keys(alloc, place, table);
             interface = "interface": NameText,
             pvd = "pvd": NameText,
             temporary = "temporary": Flag,
-            families = "families": ArrayOf { most: 3, items: Each { kind: Word::<Family>::new() } },
+            families = "families": ArrayOf { most: 3, items: Each { kind: Word::<Families>::new() } },
         }
-        let interface = present(alloc, path, interface)?;
+        let interface = present(alloc, place, interface)?;
         Ok(Path {
             interface,
             pvd,

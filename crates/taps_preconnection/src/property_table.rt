@@ -4,22 +4,17 @@ ghost use Rattle.toml.specs.View.{view, table_view};
 ghost use Rattle.taps_property.specs.Properties.{Key, Becomes, key_names, listed_keys};
 ghost use Rattle.taps_property.specs.declared.prop_error.PropError.{PropError};
 ghost use Rattle.taps_property.specs.declared.prop_value.PropValue.{PropValue};
-ghost use Rattle.taps_preconnection.specs.Keys.{is_among};
-ghost use Rattle.taps_preconnection.specs.Refusals.{Gives, Shows};
+ghost use Rattle.taps_table.specs.Keys.{is_among};
+ghost use Rattle.taps_table.specs.Places.{place_text};
+ghost use Rattle.taps_table.specs.Refusals.{Gives, Shows};
 ghost use Rattle.taps_preconnection.specs.PropertyTables.{natural_of, limit_of, property_of, property_at, properties_at, properties};
 
-use crate::PreError;
-use crate::array::ArrayOf;
 use crate::collection::Entries;
-use crate::key::{key_text, read_value};
-use crate::keys::Keys;
-use crate::kind::{Flag, Kind};
-use crate::pre_error::{out_of_range, wrong_kind};
-use crate::word::Word;
+use crate::words::{Capacities, Directions, Multipaths, Policies, Preferences, Schedulers};
 use std::alloc::Global;
-use taps_property::{
-    Capacity, Direction, Kind as PropertyKind, Multipath, NoLimit, Policy, Preference, PropError,
-    PropValue, Property, Scheduler,
+use taps_property::{Kind as PropertyKind, NoLimit, PropError, PropValue, Property};
+use taps_table::{
+    ArrayOf, Flag, Keys, Kind, Place, PreError, Word, out_of_range, read_value, wrong_kind,
 };
 use toml::{Table, Value};
 
@@ -32,14 +27,14 @@ impl Kind for Natural {
 
     ghost reads = { λ _. natural_of };
 
-    fn read(&self, alloc: Global, path: &str, value: &Value) -> Result<u64, PreError> {
+    fn read(&self, alloc: Global, place: &Place<'_>, value: &Value) -> Result<u64, PreError> {
         match value.as_integer() {
-            None => wrong_kind(alloc, path),
+            None => wrong_kind(alloc, place),
             Some(number) => {
                 if number >= 0 {
                     Ok(number as u64)
                 } else {
-                    out_of_range(alloc, path)
+                    out_of_range(alloc, place)
                 }
             }
         }
@@ -57,23 +52,28 @@ impl Kind for Limit {
 
     ghost reads = { λ l. limit_of l.word };
 
-    fn read(&self, alloc: Global, path: &str, value: &Value) -> Result<Option<u64>, PreError> {
+    fn read(
+        &self,
+        alloc: Global,
+        place: &Place<'_>,
+        value: &Value,
+    ) -> Result<Option<u64>, PreError> {
         match value {
             Value::Integer(number) => {
                 if *number >= 0 {
                     Ok(Some(*number as u64))
                 } else {
-                    out_of_range(alloc, path)
+                    out_of_range(alloc, place)
                 }
             }
             Value::String(text) => {
                 if text.as_str() == self.word.word() {
                     Ok(None)
                 } else {
-                    out_of_range(alloc, path)
+                    out_of_range(alloc, place)
                 }
             }
-            _ => wrong_kind(alloc, path),
+            _ => wrong_kind(alloc, place),
         }
     }
 }
@@ -90,45 +90,45 @@ impl Kind for Valued {
     ghost reads = { λ v. property_of v.kind };
 
     #[tactic(auto, unfolding(crate::specs::PropertyTables::property_of))]
-    fn read(&self, alloc: Global, path: &str, value: &Value) -> Result<PropValue, PreError> {
+    fn read(&self, alloc: Global, place: &Place<'_>, value: &Value) -> Result<PropValue, PreError> {
         match self.kind {
             PropertyKind::Preference => {
-                let preference = Word::<Preference>::new().read(alloc, path, value)?;
+                let preference = Word::<Preferences>::new().read(alloc, place, value)?;
                 Ok(PropValue::Pref(preference))
             }
-            PropertyKind::Flag => Ok(PropValue::Flag(Flag.read(alloc, path, value)?)),
-            PropertyKind::Number => Ok(PropValue::Number(Natural.read(alloc, path, value)?)),
+            PropertyKind::Flag => Ok(PropValue::Flag(Flag.read(alloc, place, value)?)),
+            PropertyKind::Number => Ok(PropValue::Number(Natural.read(alloc, place, value)?)),
             PropertyKind::Limit(word) => {
-                let limit = Limit { word }.read(alloc, path, value)?;
+                let limit = Limit { word }.read(alloc, place, value)?;
                 Ok(PropValue::Limit(limit))
             }
             PropertyKind::Multipath => {
-                let multipath = Word::<Multipath>::new().read(alloc, path, value)?;
+                let multipath = Word::<Multipaths>::new().read(alloc, place, value)?;
                 Ok(PropValue::Multipath(multipath))
             }
             PropertyKind::Direction => {
-                let direction = Word::<Direction>::new().read(alloc, path, value)?;
+                let direction = Word::<Directions>::new().read(alloc, place, value)?;
                 Ok(PropValue::Direction(direction))
             }
             PropertyKind::Scheduler => {
-                let scheduler = Word::<Scheduler>::new().read(alloc, path, value)?;
+                let scheduler = Word::<Schedulers>::new().read(alloc, place, value)?;
                 Ok(PropValue::Scheduler(scheduler))
             }
             PropertyKind::Capacity => {
-                let capacity = Word::<Capacity>::new().read(alloc, path, value)?;
+                let capacity = Word::<Capacities>::new().read(alloc, place, value)?;
                 Ok(PropValue::Capacity(capacity))
             }
             PropertyKind::Policy => {
-                let policy = Word::<Policy>::new().read(alloc, path, value)?;
+                let policy = Word::<Policies>::new().read(alloc, place, value)?;
                 Ok(PropValue::Policy(policy))
             }
-            PropertyKind::State => wrong_kind(alloc, path),
+            PropertyKind::State => wrong_kind(alloc, place),
             PropertyKind::Entries => {
                 let entries = ArrayOf {
                     most: 8,
                     items: Entries,
                 }
-                .read(alloc, path, value)?;
+                .read(alloc, place, value)?;
                 Ok(PropValue::Entries(entries))
             }
         }
@@ -152,37 +152,37 @@ pub trait PropertySet: Drop {
 #[tactic(auto, unfolding(crate::specs::PropertyTables::property_at))]
 fn read_property<S: PropertySet>(
     alloc: Global,
-    path: &str,
+    place: &Place<'_>,
     table: &Table,
     name: &str,
     kind: PropertyKind,
     props: &mut S,
 ) -> Result<(), PreError>
-    ensures { Shows (λ _. props.new) result (property_at S.sets (record { name = name.now; kind = kind }) path.now (table_view table.now) props.old) }
+    ensures { Shows (λ _. props.new) result
+        (property_at S.sets (record { name = name.now; kind = kind })
+        (place_text place.now) (table_view table.now) props.old) }
 {
-    match read_value(alloc, path, table, name, &Valued { kind })? {
+    match read_value(alloc, place, table, name, &Valued { kind })? {
         None => Ok(()),
-        Some(value) => {
-            let text = key_text(alloc, path, name)?;
-            match props.set_property(name, value) {
-                Ok(()) => Ok(()),
-                Err(_) => out_of_range(alloc, text.as_str()),
-            }
-        }
+        Some(value) => match props.set_property(name, value) {
+            Ok(()) => Ok(()),
+            Err(_) => out_of_range(alloc, &Place::Key(place, name)),
+        },
     }
 }
 
 /// Sets each property that the table has, in order.
 pub fn read_properties<S: PropertySet>(
     alloc: Global,
-    path: &str,
+    place: &Place<'_>,
     table: &Table,
     props: &mut S,
 ) -> Result<(), PreError>
-    ensures { Shows (λ _. props.new) result (properties_at S.sets S.keys path.now (table_view table.now) props.old) }
+    ensures { Shows (λ _. props.new) result
+        (properties_at S.sets S.keys (place_text place.now) (table_view table.now) props.old) }
 {
     for property in S::properties() {
-        read_property(alloc, path, table, property.0, property.1, props)?;
+        read_property(alloc, place, table, property.0, property.1, props)?;
     }
     Ok(())
 }
@@ -194,7 +194,7 @@ fn is_listed(properties: &[Property], name: &str) -> bool
 }
 
 /// Whether one of the set's properties has this name.
-#[tactic(auto, using(crate::proofs::KnownKeys::is_among_properties))]
+#[tactic(auto, using(crate::proofs::Listed::is_among_properties))]
 pub fn has_property<S: PropertySet>(name: &str) -> bool
     ensures { result ≡ is_among (key_names S.keys) name.now }
 {
@@ -216,9 +216,9 @@ impl<S: PropertySet + Copy> Keys for Properties<S> {
         has_property::<S>(name)
     }
 
-    fn read(&self, alloc: Global, path: &str, table: &Table) -> Result<S, PreError> {
+    fn read(&self, alloc: Global, place: &Place<'_>, table: &Table) -> Result<S, PreError> {
         let mut props = self.start;
-        read_properties(alloc, path, table, &mut props)?;
+        read_properties(alloc, place, table, &mut props)?;
         Ok(props)
     }
 }

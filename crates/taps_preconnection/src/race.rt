@@ -1,13 +1,11 @@
 ghost use Rattle.std.specs.Prelude.{◌≡◌};
 ghost use Rattle.toml.specs.View.{table_view};
-ghost use Rattle.taps_preconnection.specs.Refusals.{Gives};
-ghost use Rattle.taps_preconnection.specs.Words.{mode_word};
+ghost use Rattle.taps_table.specs.Refusals.{Gives};
+ghost use Rattle.taps_preconnection.specs.Words.{mode_words};
 ghost use Rattle.taps_preconnection.specs.Race.{race_at, default_race};
 
-use crate::kind::{FromTable, Number};
-use crate::word::{Listed, Word};
-use crate::{PreError, read};
 use std::alloc::Global;
+use taps_table::{FromTable, Number, Place, PreError, Word, WordList, read, read_keys};
 use toml::Table;
 
 /// How the attempts of a race follow each other (RFC 9623 section 4.3).
@@ -43,17 +41,22 @@ impl RacePlan {
     }
 }
 
-impl Listed for Mode {
-    ghost listed = { mode_word };
+/// The words of modes of a race.
+#[derive(Clone, Copy, Drop)]
+pub struct Modes;
 
-    #[tactic(auto, unfolding(crate::specs::Words::mode_word))]
-    fn from_word(word: &str) -> Option<Mode> {
-        match word {
-            "simultaneous" => Some(Mode::Simultaneous),
-            "staggered" => Some(Mode::Staggered),
-            "failover" => Some(Mode::Failover),
-            _ => None,
-        }
+impl WordList for Modes {
+    type Value = Mode;
+
+    ghost words = { mode_words };
+
+    #[tactic(auto, unfolding(crate::specs::Words::mode_words))]
+    fn words() -> &'static [(&'static str, Mode)] {
+        &[
+            ("simultaneous", Mode::Simultaneous),
+            ("staggered", Mode::Staggered),
+            ("failover", Mode::Failover),
+        ]
     }
 }
 
@@ -66,10 +69,15 @@ impl FromTable for RaceTable {
 
     ghost at = { λ _. race_at };
 
-    #[tactic(auto, unfolding(crate::specs::Race::race_at, crate::specs::Keys::keys_of))]
-    fn read_table(&self, alloc: Global, path: &str, table: &Table) -> Result<RacePlan, PreError> {
-        read! { read_keys(alloc, path, table);
-            mode = "mode": Word::<Mode>::new(),
+    #[tactic(auto, unfolding(crate::specs::Race::race_at, taps_table::specs::Keys::keys_of))]
+    fn read_table(
+        &self,
+        alloc: Global,
+        place: &Place<'_>,
+        table: &Table,
+    ) -> Result<RacePlan, PreError> {
+        read! { read_keys(alloc, place, table);
+            mode = "mode": Word::<Modes>::new(),
             delay = "delay_ms": Number { low: 10, high: 2000 },
             timeout = "timeout_ms": Number { low: 1, high: 3600000 },
             cancel = "cancel_ms": Number { low: 0, high: 3600000 },

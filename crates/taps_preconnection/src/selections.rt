@@ -1,14 +1,13 @@
 ghost use Rattle.std.specs.Prelude.{◌≡◌};
 ghost use Rattle.toml.specs.View.{table_view};
-ghost use Rattle.taps_preconnection.specs.Refusals.{Gives};
+ghost use Rattle.taps_table.specs.Places.{place_text};
+ghost use Rattle.taps_table.specs.Refusals.{Gives};
 ghost use Rattle.taps_preconnection.specs.PropertySets.{selection_properties, set_selection, profiled, selected, selection_keys, selections_at, unselected, is_replayable};
 
-use crate::PreError;
-use crate::keys::{Keys, read_keys};
-use crate::kind::FromTable;
 use crate::property_table::{PropertySet, has_property, read_properties};
 use std::alloc::Global;
 use taps_property::{Profile, PropError, PropValue, Property, Role, Selection};
+use taps_table::{FromTable, Keys, Place, PreError, read_keys};
 use toml::Table;
 
 /// What is asked of stacks and paths in each role.
@@ -63,13 +62,13 @@ fn selected(
     alloc: Global,
     profile: Option<Profile>,
     role: Role,
-    path: &str,
+    place: &Place<'_>,
     table: &Table,
 ) -> Result<Selection, PreError>
-    ensures { Gives result (selected profile role path.now (table_view table.now)) }
+    ensures { Gives result (selected profile role (place_text place.now) (table_view table.now)) }
 {
     let mut selection = profiled(alloc, profile, role);
-    read_properties(alloc, path, table, &mut selection)?;
+    read_properties(alloc, place, table, &mut selection)?;
     Ok(selection)
 }
 
@@ -88,10 +87,15 @@ impl Keys for SelectionKeys {
         has_property::<Selection>(name)
     }
 
-    fn read(&self, alloc: Global, path: &str, table: &Table) -> Result<Selections, PreError> {
-        let initiating = selected(alloc, self.profile, Role::Initiate, path, table)?;
-        let listening = selected(alloc, self.profile, Role::Listen, path, table)?;
-        let meeting = selected(alloc, self.profile, Role::Rendezvous, path, table)?;
+    fn read(
+        &self,
+        alloc: Global,
+        place: &Place<'_>,
+        table: &Table,
+    ) -> Result<Selections, PreError> {
+        let initiating = selected(alloc, self.profile, Role::Initiate, place, table)?;
+        let listening = selected(alloc, self.profile, Role::Listen, place, table)?;
+        let meeting = selected(alloc, self.profile, Role::Rendezvous, place, table)?;
         Ok(Selections {
             initiating,
             listening,
@@ -111,9 +115,14 @@ impl FromTable for SelectionTable {
 
     ghost at = { λ t. selections_at t.profile };
 
-    fn read_table(&self, alloc: Global, path: &str, table: &Table) -> Result<Selections, PreError> {
+    fn read_table(
+        &self,
+        alloc: Global,
+        place: &Place<'_>,
+        table: &Table,
+    ) -> Result<Selections, PreError> {
         let profile = self.profile;
-        read_keys(alloc, path, table, &SelectionKeys { profile })
+        read_keys(alloc, place, table, &SelectionKeys { profile })
     }
 }
 

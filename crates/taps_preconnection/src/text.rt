@@ -1,68 +1,22 @@
 ghost use Rattle.std.specs.Prelude.{◌≡◌, List, ℕ};
 ghost use Rattle.hex.specs.Hex.{decode_of};
 ghost use Rattle.toml.specs.View.{view};
-ghost use Rattle.taps_preconnection.specs.Refusals.{Gives};
-ghost use Rattle.taps_preconnection.specs.Values.{text_of, name_at, name_of, address_of, ip_of, address_at, hex_of, hex_at};
+ghost use Rattle.taps_table.specs.Places.{place_text};
+ghost use Rattle.taps_table.specs.Refusals.{Gives};
+ghost use Rattle.taps_preconnection.specs.Texts.{address_of, ip_of, address_at, hex_of, hex_at};
 
-use crate::PreError;
-use crate::kind::Kind;
-use crate::pre_error::{out_of_range, wrong_kind};
 use hex::FromHexError;
 use std::alloc::Global;
-use taps_base::{Body, Name, NameError};
+use taps_base::Body;
 use taps_endpoint::{Address, AddressError, Ip, parse_address, parse_ip};
+use taps_table::{Kind, Place, PreError, wrong_kind};
 use toml::Value;
 
-/// A string.
-#[derive(Clone, Copy, Drop)]
-pub struct Text;
-
-impl Kind for Text {
-    type Output = Body;
-
-    ghost reads = { λ _. text_of };
-
-    fn read(&self, alloc: Global, path: &str, value: &Value) -> Result<Body, PreError> {
-        match value.as_str() {
-            None => wrong_kind(alloc, path),
-            Some(text) => Ok(Body::from_slice(alloc, text.as_bytes())?),
-        }
-    }
-}
-
-/// A name.
-#[derive(Clone, Copy, Drop)]
-pub struct NameText;
-
-impl Kind for NameText {
-    type Output = Name;
-
-    ghost reads = { λ _. name_of };
-
-    fn read(&self, alloc: Global, path: &str, value: &Value) -> Result<Name, PreError> {
-        match value.as_str() {
-            None => wrong_kind(alloc, path),
-            Some(text) => read_name(alloc, path, text),
-        }
-    }
-}
-
-/// The name that a text is.
-pub fn read_name(alloc: Global, path: &str, text: &str) -> Result<Name, PreError>
-    ensures { Gives result (name_at path.now text.now) }
+fn bad_address<T>(alloc: Global, place: &Place<'_>, refused: AddressError) -> Result<T, PreError>
+    ensures { Gives result (address_at (place_text place.now) (Err refused)) }
 {
-    match Name::read(alloc, text.as_bytes()) {
-        Ok(name) => Ok(name),
-        Err(NameError::NotName) => out_of_range(alloc, path),
-        Err(NameError::NoMemory) => Err(PreError::NoMemory),
-    }
-}
-
-fn bad_address<T>(alloc: Global, path: &str, refused: AddressError) -> Result<T, PreError>
-    ensures { Gives result (address_at path.now (Err refused)) }
-{
-    match Body::from_slice(alloc, path.as_bytes()) {
-        Ok(key) => Err(PreError::BadAddress(key, refused.place)),
+    match place.text(alloc) {
+        Ok(key) => Err(PreError::BadAddress(Body::from_text(key), refused.place)),
         Err(_) => Err(PreError::NoMemory),
     }
 }
@@ -76,12 +30,12 @@ impl Kind for AddressText {
 
     ghost reads = { λ _. address_of };
 
-    fn read(&self, alloc: Global, path: &str, value: &Value) -> Result<Address, PreError> {
+    fn read(&self, alloc: Global, place: &Place<'_>, value: &Value) -> Result<Address, PreError> {
         match value.as_str() {
-            None => wrong_kind(alloc, path),
+            None => wrong_kind(alloc, place),
             Some(text) => match parse_address(text.as_bytes()) {
                 Ok(address) => Ok(address),
-                Err(refused) => bad_address(alloc, path, refused),
+                Err(refused) => bad_address(alloc, place, refused),
             },
         }
     }
@@ -96,12 +50,12 @@ impl Kind for IpText {
 
     ghost reads = { λ _. ip_of };
 
-    fn read(&self, alloc: Global, path: &str, value: &Value) -> Result<Ip, PreError> {
+    fn read(&self, alloc: Global, place: &Place<'_>, value: &Value) -> Result<Ip, PreError> {
         match value.as_str() {
-            None => wrong_kind(alloc, path),
+            None => wrong_kind(alloc, place),
             Some(text) => match parse_ip(text.as_bytes()) {
                 Ok(ip) => Ok(ip),
-                Err(refused) => bad_address(alloc, path, refused),
+                Err(refused) => bad_address(alloc, place, refused),
             },
         }
     }
@@ -116,28 +70,28 @@ impl Kind for HexText {
 
     ghost reads = { λ _. hex_of };
 
-    fn read(&self, alloc: Global, path: &str, value: &Value) -> Result<Body, PreError> {
+    fn read(&self, alloc: Global, place: &Place<'_>, value: &Value) -> Result<Body, PreError> {
         match value.as_str() {
-            None => wrong_kind(alloc, path),
-            Some(text) => read_hex(alloc, path, text),
+            None => wrong_kind(alloc, place),
+            Some(text) => read_hex(alloc, place, text),
         }
     }
 }
 
-fn read_hex(alloc: Global, path: &str, text: &str) -> Result<Body, PreError>
-    ensures { Gives result (hex_at path.now (decode_of text.now)) }
+fn read_hex(alloc: Global, place: &Place<'_>, text: &str) -> Result<Body, PreError>
+    ensures { Gives result (hex_at (place_text place.now) (decode_of text.now)) }
 {
     match hex::decode(alloc, text) {
         Ok(bytes) => Ok(Body::from_vec(bytes)),
         Err(FromHexError::OutOfMemory) => Err(PreError::NoMemory),
-        Err(FromHexError::OddLength) => bad_hex(alloc, path),
-        Err(FromHexError::InvalidStringLength) => bad_hex(alloc, path),
-        Err(FromHexError::InvalidHexCharacter { .. }) => bad_hex(alloc, path),
+        Err(FromHexError::OddLength) => bad_hex(alloc, place),
+        Err(FromHexError::InvalidStringLength) => bad_hex(alloc, place),
+        Err(FromHexError::InvalidHexCharacter { .. }) => bad_hex(alloc, place),
     }
 }
 
-fn bad_hex(alloc: Global, path: &str) -> Result<Body, PreError>
-    ensures { Gives result (Err (PreError.BadHex path.now)) }
+fn bad_hex(alloc: Global, place: &Place<'_>) -> Result<Body, PreError>
+    ensures { Gives result (Err (PreError.BadHex (place_text place.now))) }
 {
-    Err(PreError::BadHex(Body::from_slice(alloc, path.as_bytes())?))
+    Err(PreError::BadHex(Body::from_text(place.text(alloc)?)))
 }

@@ -1,122 +1,165 @@
 ghost use Rattle.std.specs.Prelude.{◌≡◌};
-ghost use Rattle.taps_preconnection.specs.Words.{preference_word, profile_word, multipath_word, direction_word, scheduler_word, capacity_word, policy_word, family_word};
+ghost use Rattle.taps_preconnection.specs.Words.{preference_words, profile_words, multipath_words, direction_words, scheduler_words, capacity_words, policy_words, family_words};
 
-use crate::word::Listed;
 use taps_endpoint::Family;
 use taps_property::{Capacity, Direction, Multipath, Policy, Preference, Profile, Scheduler};
+use taps_table::WordList;
 
-impl Listed for Preference {
-    ghost listed = { preference_word };
+/// The words of preferences.
+#[derive(Clone, Copy, Drop)]
+pub struct Preferences;
 
-    #[tactic(auto, unfolding(crate::specs::Words::preference_word))]
-    fn from_word(word: &str) -> Option<Preference> {
-        match word {
-            "require" => Some(Preference::Require),
-            "prefer" => Some(Preference::Prefer),
-            "no-preference" => Some(Preference::NoPreference),
-            "avoid" => Some(Preference::Avoid),
-            "prohibit" => Some(Preference::Prohibit),
-            _ => None,
-        }
+impl WordList for Preferences {
+    type Value = Preference;
+
+    ghost words = { preference_words };
+
+    #[tactic(auto, unfolding(crate::specs::Words::preference_words))]
+    fn words() -> &'static [(&'static str, Preference)] {
+        &[
+            ("require", Preference::Require),
+            ("prefer", Preference::Prefer),
+            ("no-preference", Preference::NoPreference),
+            ("avoid", Preference::Avoid),
+            ("prohibit", Preference::Prohibit),
+        ]
     }
 }
 
-impl Listed for Profile {
-    ghost listed = { profile_word };
+/// The words of profiles.
+#[derive(Clone, Copy, Drop)]
+pub struct Profiles;
 
-    #[tactic(auto, unfolding(crate::specs::Words::profile_word))]
-    fn from_word(word: &str) -> Option<Profile> {
-        match word {
-            "reliable-inorder-stream" => Some(Profile::ReliableInorderStream),
-            "reliable-message" => Some(Profile::ReliableMessage),
-            "unreliable-datagram" => Some(Profile::UnreliableDatagram),
-            _ => None,
-        }
+impl WordList for Profiles {
+    type Value = Profile;
+
+    ghost words = { profile_words };
+
+    #[tactic(auto, unfolding(crate::specs::Words::profile_words))]
+    fn words() -> &'static [(&'static str, Profile)] {
+        &[
+            ("reliable-inorder-stream", Profile::ReliableInorderStream),
+            ("reliable-message", Profile::ReliableMessage),
+            ("unreliable-datagram", Profile::UnreliableDatagram),
+        ]
     }
 }
 
-impl Listed for Multipath {
-    ghost listed = { multipath_word };
+/// The words of multipath.
+#[derive(Clone, Copy, Drop)]
+pub struct Multipaths;
 
-    #[tactic(auto, unfolding(crate::specs::Words::multipath_word))]
-    fn from_word(word: &str) -> Option<Multipath> {
-        match word {
-            "disabled" => Some(Multipath::Disabled),
-            "active" => Some(Multipath::Active),
-            "passive" => Some(Multipath::Passive),
-            _ => None,
-        }
+impl WordList for Multipaths {
+    type Value = Multipath;
+
+    ghost words = { multipath_words };
+
+    #[tactic(auto, unfolding(crate::specs::Words::multipath_words))]
+    fn words() -> &'static [(&'static str, Multipath)] {
+        &[
+            ("disabled", Multipath::Disabled),
+            ("active", Multipath::Active),
+            ("passive", Multipath::Passive),
+        ]
     }
 }
 
-impl Listed for Direction {
-    ghost listed = { direction_word };
+/// The words of directions.
+#[derive(Clone, Copy, Drop)]
+pub struct Directions;
 
-    #[tactic(auto, unfolding(crate::specs::Words::direction_word))]
-    fn from_word(word: &str) -> Option<Direction> {
-        match word {
-            "bidirectional" => Some(Direction::Bidirectional),
-            "unidirectional-send" => Some(Direction::UnidirectionalSend),
-            "unidirectional-receive" => Some(Direction::UnidirectionalReceive),
-            _ => None,
-        }
+impl WordList for Directions {
+    type Value = Direction;
+
+    ghost words = { direction_words };
+
+    #[tactic(auto, unfolding(crate::specs::Words::direction_words))]
+    fn words() -> &'static [(&'static str, Direction)] {
+        &[
+            ("bidirectional", Direction::Bidirectional),
+            ("unidirectional-send", Direction::UnidirectionalSend),
+            ("unidirectional-receive", Direction::UnidirectionalReceive),
+        ]
     }
 }
 
-impl Listed for Scheduler {
-    ghost listed = { scheduler_word };
+/// The words of schedulers.
+#[derive(Clone, Copy, Drop)]
+pub struct Schedulers;
 
-    #[tactic(auto, unfolding(crate::specs::Words::scheduler_word))]
-    fn from_word(word: &str) -> Option<Scheduler> {
-        match word {
-            "weighted-fair-queueing" => Some(Scheduler::WeightedFairQueueing),
-            "first-come-first-served" => Some(Scheduler::FirstComeFirstServed),
-            _ => None,
-        }
+impl WordList for Schedulers {
+    type Value = Scheduler;
+
+    ghost words = { scheduler_words };
+
+    #[tactic(auto, unfolding(crate::specs::Words::scheduler_words))]
+    fn words() -> &'static [(&'static str, Scheduler)] {
+        &[
+            ("weighted-fair-queueing", Scheduler::WeightedFairQueueing),
+            ("first-come-first-served", Scheduler::FirstComeFirstServed),
+        ]
     }
 }
 
-impl Listed for Capacity {
-    ghost listed = { capacity_word };
+/// The words of capacity profiles.
+#[derive(Clone, Copy, Drop)]
+pub struct Capacities;
 
-    #[tactic(auto, unfolding(crate::specs::Words::capacity_word))]
-    fn from_word(word: &str) -> Option<Capacity> {
-        match word {
-            "default" => Some(Capacity::Default),
-            "scavenger" => Some(Capacity::Scavenger),
-            "low-latency-interactive" => Some(Capacity::LowLatencyInteractive),
-            "low-latency-non-interactive" => Some(Capacity::LowLatencyNonInteractive),
-            "constant-rate-streaming" => Some(Capacity::ConstantRateStreaming),
-            "capacity-seeking" => Some(Capacity::CapacitySeeking),
-            _ => None,
-        }
+impl WordList for Capacities {
+    type Value = Capacity;
+
+    ghost words = { capacity_words };
+
+    #[tactic(auto, unfolding(crate::specs::Words::capacity_words))]
+    fn words() -> &'static [(&'static str, Capacity)] {
+        &[
+            ("default", Capacity::Default),
+            ("scavenger", Capacity::Scavenger),
+            ("low-latency-interactive", Capacity::LowLatencyInteractive),
+            (
+                "low-latency-non-interactive",
+                Capacity::LowLatencyNonInteractive,
+            ),
+            ("constant-rate-streaming", Capacity::ConstantRateStreaming),
+            ("capacity-seeking", Capacity::CapacitySeeking),
+        ]
     }
 }
 
-impl Listed for Policy {
-    ghost listed = { policy_word };
+/// The words of multipath policies.
+#[derive(Clone, Copy, Drop)]
+pub struct Policies;
 
-    #[tactic(auto, unfolding(crate::specs::Words::policy_word))]
-    fn from_word(word: &str) -> Option<Policy> {
-        match word {
-            "handover" => Some(Policy::Handover),
-            "interactive" => Some(Policy::Interactive),
-            "aggregate" => Some(Policy::Aggregate),
-            _ => None,
-        }
+impl WordList for Policies {
+    type Value = Policy;
+
+    ghost words = { policy_words };
+
+    #[tactic(auto, unfolding(crate::specs::Words::policy_words))]
+    fn words() -> &'static [(&'static str, Policy)] {
+        &[
+            ("handover", Policy::Handover),
+            ("interactive", Policy::Interactive),
+            ("aggregate", Policy::Aggregate),
+        ]
     }
 }
 
-impl Listed for Family {
-    ghost listed = { family_word };
+/// The words of address families.
+#[derive(Clone, Copy, Drop)]
+pub struct Families;
 
-    #[tactic(auto, unfolding(crate::specs::Words::family_word))]
-    fn from_word(word: &str) -> Option<Family> {
-        match word {
-            "inet4" => Some(Family::Inet4),
-            "inet6" => Some(Family::Inet6),
-            "unix" => Some(Family::Unix),
-            _ => None,
-        }
+impl WordList for Families {
+    type Value = Family;
+
+    ghost words = { family_words };
+
+    #[tactic(auto, unfolding(crate::specs::Words::family_words))]
+    fn words() -> &'static [(&'static str, Family)] {
+        &[
+            ("inet4", Family::Inet4),
+            ("inet6", Family::Inet6),
+            ("unix", Family::Unix),
+        ]
     }
 }

@@ -1,4 +1,4 @@
--- The properties of a connection (RFC 9622 section 8.1; names, kinds and defaults are this project's profile).
+-- The properties of a connection (RFC 9622 section 8.1; names, kinds and defaults are local).
 use Rattle.std.specs.Prelude.{List, [], ◌∷◌, ◌++◌, false, None, codes}
 use Rattle.taps_property.specs.Properties.{Row, row}
 use Rattle.taps_property.specs.declared.capacity.Capacity.TheVariants as capacity
@@ -32,6 +32,7 @@ abbrev pub connection_table : List (Row ConnectionProps)
 connection_table =
     connection_settings ++ row (codes "connState") State (λ c. c.conn_state) (λ v c. record c { conn_state = v }) ∷ []
 
+-- what a connection has where an application says nothing
 abbrev pub default_connection : ConnectionProps
 default_connection = record {
   recv_checksum_len = None;

@@ -1,4 +1,4 @@
--- The kinds of a property's value, and which values each takes (this project's own).
+-- The kinds of a property's value, and which values each takes (local).
 use Rattle.std.specs.Prelude.{ℕ, List, Bool, ◌&&◌, Option, Some, None, Result, Ok, Err, length, nat_le, codes, if◌then◌else◌}
 use Rattle.taps_base.specs.Lists.{ListState}
 use Rattle.taps_property.specs.Entries.{are_different}

@@ -1,4 +1,4 @@
--- The properties of a message (RFC 9622 section 9.1.3; names, kinds and defaults are this project's profile).
+-- The properties of a message (RFC 9622 section 9.1.3; names, kinds and defaults are local).
 use Rattle.std.specs.Prelude.{List, [], ◌∷◌, Bool, false, None, codes}
 use Rattle.taps_property.specs.Properties.{Row, row}
 use Rattle.taps_property.specs.declared.capacity.Capacity.{Capacity as CapacityProfile}
@@ -6,6 +6,7 @@ use Rattle.taps_property.specs.declared.kind.Kind.TheVariants.{Flag, Number, Lim
 use Rattle.taps_property.specs.declared.kind.NoLimit.TheVariants.{FullCoverage, Infinite}
 use Rattle.taps_property.specs.declared.message_props.MessageProps.{MessageProps}
 
+-- all of them, in order
 abbrev pub message_table : List (Row MessageProps)
 message_table =
     row (codes "msgLifetime") (Limit Infinite) (λ m. m.msg_lifetime) (λ v m. record m { msg_lifetime = v })

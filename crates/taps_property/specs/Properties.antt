@@ -15,6 +15,7 @@ pub record Setting (Set : Type 0) : Type 0 where
   pub kind : Kind
   pub with : Value kind → Set → Set
 
+-- how the property of this name is set
 abbrev pub setting : {Set : Type 0} → List ℕ → (k : Kind) → (Value k → Set → Set) → Setting Set
 setting name kind with = record { name = name; kind = kind; with = with }
 
@@ -23,9 +24,11 @@ pub record Row (Set : Type 0) : Type 0 where
   pub setting : Setting Set
   pub value : Set → Value setting.kind
 
+-- a row with its name, its kind, its value in a set, and the set with another value
 abbrev pub row : {Set : Type 0} → List ℕ → (k : Kind) → (Set → Value k) → (Value k → Set → Set) → Row Set
 row name kind value with = record { setting = setting name kind with; value = value }
 
+-- how each row of a table is set
 abbrev pub settings : {Set : Type 0} → List (Row Set) → List (Setting Set)
 settings rows = map (λ r. r.setting) rows
 
@@ -34,6 +37,7 @@ abbrev pub value_in : {Set : Type 0} → List (Row Set) → Set → List ℕ →
 value_in [] set name = Err UnknownProperty
 value_in (r ∷ rs) set name = if bytes_eq name r.setting.name then Ok (told r.setting.kind (r.value set)) else value_in rs set name
 
+-- the set with a value that is taken, or why it is not
 abbrev pub with_taken : {A Set : Type 0} → (A → Set → Set) → Set → Result A PropError → Result Set PropError
 with_taken with set (Ok x) = Ok (with x set)
 with_taken with set (Err e) = Err e
@@ -62,11 +66,14 @@ pub record Key : Type 0 where
   pub name : List ℕ
   pub kind : Kind
 
+-- the names and kinds of settings
 abbrev pub keys : {Set : Type 0} → List (Setting Set) → List Key
 keys settings = map {B = Key} (λ s. record { name = s.name; kind = s.kind }) settings
 
+-- the names and kinds of properties
 abbrev pub listed_keys : List Property → List Key
 listed_keys properties = map {B = Key} (λ p. record { name = p.0.now; kind = p.1 }) properties
 
+-- their names
 abbrev pub key_names : List Key → List (List ℕ)
 key_names keys = map (λ k. k.name) keys

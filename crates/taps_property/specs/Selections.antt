@@ -1,4 +1,4 @@
--- What is asked of a stack and its path (RFC 9622 section 6.2; names, kinds, defaults and profiles are this project's own).
+-- What is asked of a stack and its path (RFC 9622 section 6.2; names, kinds, defaults and profiles are local).
 use Rattle.std.specs.Prelude.{ℕ, List, [], ◌∷◌, false, bytes_eq, codes, map, slice_set, slice_index_or, Bool, ◌||◌}
 use Rattle.taps_base.specs.Lists.{filled}
 use Rattle.taps_property.specs.Properties.{Row, row}
@@ -21,12 +21,15 @@ use Rattle.taps_property.specs.declared.stack_property.StackProperty.TheVariants
 abbrev pub preference_for : StackProperty → Selection → Preference
 preference_for property s = slice_index_or s.stack (stack_place property) NoPreference
 
+-- the selection with this preference for a property of stacks
 abbrev pub with_preference : StackProperty → Preference → Selection → Selection
 with_preference property preference s = record s { stack = slice_set s.stack (stack_place property) preference }
 
+-- the row of a property of stacks
 abbrev pub stack_row : List ℕ → StackProperty → Row Selection
 stack_row name property = row name kind.Preference (preference_for property) (with_preference property)
 
+-- all of them, in order
 abbrev pub selection_table : List (Row Selection)
 selection_table =
     stack_row (codes "reliability") Reliability
@@ -68,19 +71,23 @@ default_preference KeepAlive = NoPreference
 default_preference SoftErrorNotify = NoPreference
 default_preference ActiveReadBeforeSend = NoPreference
 
+-- the same for every role, in the order of stack properties
 abbrev pub default_preferences : List Preference
 default_preferences = map default_preference stack_properties
 
+-- the default for a temporary local address
 abbrev pub default_temporary : Role → Preference
 default_temporary Initiate = Prefer
 default_temporary Listen = Avoid
 default_temporary Rendezvous = Avoid
 
+-- the default for multipath
 abbrev pub default_multipath : Role → Multipath
 default_multipath Initiate = Disabled
 default_multipath Listen = Passive
 default_multipath Rendezvous = Disabled
 
+-- what is asked in a role where an application says nothing
 abbrev pub default_selection : Role → Selection
 default_selection role = record {
   stack = default_preferences;
@@ -101,6 +108,7 @@ profile_preferences ReliableMessage =
 profile_preferences UnreliableDatagram =
     (Reliability, Avoid) ∷ (PreserveOrder, Avoid) ∷ (CongestionControl, NoPreference) ∷ (PreserveMsgBoundaries, Require) ∷ []
 
+-- the selection with each of these preferences
 abbrev pub with_preferences : List (StackProperty × Preference) → Selection → Selection
 with_preferences [] s = s
 with_preferences (asked ∷ more) s = with_preferences more (with_preference asked.0 asked.1 s)

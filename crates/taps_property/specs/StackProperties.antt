@@ -3,6 +3,7 @@ use Rattle.std.specs.Prelude.{ℕ, List, [], ◌∷◌}
 use Rattle.taps_property.specs.declared.stack_property.StackProperty.{StackProperty}
 use Rattle.taps_property.specs.declared.stack_property.StackProperty.TheVariants.{Reliability, PreserveMsgBoundaries, PerMsgReliability, PreserveOrder, ZeroRttMsg, Multistreaming, FullChecksumSend, FullChecksumRecv, CongestionControl, KeepAlive, SoftErrorNotify, ActiveReadBeforeSend}
 
+-- all of them, in order
 abbrev pub stack_properties : List StackProperty
 stack_properties = Reliability ∷ PreserveMsgBoundaries ∷ PerMsgReliability ∷ PreserveOrder ∷ ZeroRttMsg ∷ Multistreaming ∷ FullChecksumSend ∷ FullChecksumRecv ∷ CongestionControl ∷ KeepAlive ∷ SoftErrorNotify ∷ ActiveReadBeforeSend ∷ []
 

@@ -4,7 +4,6 @@ ghost use Rattle.taps_base.specs.Lists.{filled};
 ghost use Rattle.taps_property.specs.Entries as spec;
 
 use crate::Preference;
-use std::alloc::Global;
 use taps_base::{List, Name, NoMemory};
 
 /// How much an interface or a provisioning domain is wanted (RFC 9622 sections 6.2.11 and 6.2.12).
@@ -42,11 +41,11 @@ pub(crate) fn are_different(entries: &[Entry]) -> bool
     }
 }
 
-pub(crate) fn copy_of(alloc: Global, entries: &[Entry]) -> Result<List<Entry>, NoMemory>
-    ensures { IfOk result (λ copies. copies ≡ filled entries.now) }
+pub(crate) fn copy_of(entries: &List<Entry>) -> Result<List<Entry>, NoMemory>
+    ensures { IfOk result (λ copies. copies ≡ filled entries.now.items) }
 {
-    let mut copies = List::new(alloc);
-    for entry in entries {
+    let mut copies = List::new(entries.allocator());
+    for entry in entries.as_slice() {
         match copies.push(entry.copy()?) {
             Ok(()) => {}
             Err(_) => return Err(NoMemory),

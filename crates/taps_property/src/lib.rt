@@ -20,8 +20,6 @@ mod role;
 mod scheduler;
 mod selection;
 mod stack_property;
-#[cfg(test)]
-mod tests;
 
 pub use capacity::Capacity;
 pub use conn_state::ConnState;

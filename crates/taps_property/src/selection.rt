@@ -145,7 +145,7 @@ impl Selection {
     }
 
     /// The value of the property of this name. Only a collection takes memory.
-    pub fn get(&self, alloc: Global, name: &str) -> Result<PropValue, PropError>
+    pub fn get(&self, name: &str) -> Result<PropValue, PropError>
         ensures value { result ≢ Err PropError.NoMemory → result ≡ value_in selection_table self.now name.now }
         ensures memory { result ≡ Err PropError.NoMemory → IsTrue (is_collection name.now) }
     {
@@ -170,8 +170,8 @@ impl Selection {
                 StackProperty::CongestionControl,
             ))),
             "keepAlive" => Ok(PropValue::Pref(self.preference(StackProperty::KeepAlive))),
-            "interface" => entries_told(alloc, &self.interface),
-            "pvd" => entries_told(alloc, &self.pvd),
+            "interface" => entries_told(&self.interface),
+            "pvd" => entries_told(&self.pvd),
             "useTemporaryLocalAddress" => Ok(PropValue::Pref(self.temporary)),
             "multipath" => Ok(PropValue::Multipath(self.multipath)),
             "advertisesAltaddr" => Ok(PropValue::Flag(self.advertises_altaddr)),
@@ -187,10 +187,10 @@ impl Selection {
     }
 }
 
-fn entries_told(alloc: Global, entries: &List<Entry>) -> Result<PropValue, PropError>
+fn entries_told(entries: &List<Entry>) -> Result<PropValue, PropError>
     ensures { result ≢ Err PropError.NoMemory → result ≡ Ok (PropValue.Entries (filled entries.now.items)) }
 {
-    match copy_of(alloc, entries.as_slice()) {
+    match copy_of(entries) {
         Ok(copies) => Ok(PropValue::Entries(copies)),
         Err(_) => Err(PropError::NoMemory),
     }

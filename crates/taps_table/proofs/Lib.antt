@@ -1,0 +1,5 @@
+pub mod Refusals
+pub mod Documents
+pub mod KnownKeys
+pub mod Items
+pub mod Readings
