@@ -48,6 +48,7 @@ keyed_among level path addresses (place, address) =
 abbrev pub of_level : Level → Path → List Address → List code.Candidate
 of_level level path addresses = map (keyed_among level path addresses) (reached path level.stack addresses)
 
+-- what the candidates of this path and this stack have in common
 abbrev pub level_of : Gathering → ℕ × Path → Stack → Level
 level_of g (place, path) stack =
     record { path_key = path_key g.selection path; path = place; stack_key = stack_key g.selection stack; stack = stack }
@@ -56,6 +57,7 @@ level_of g (place, path) stack =
 abbrev pub of_stack : Gathering → ℕ × Path → Stack → List code.Candidate
 of_stack g path stack = if stack_survives g.selection g.role stack then of_level (level_of g path stack) path.1 g.addresses else []
 
+-- those of a path, stack by stack
 abbrev pub of_stacks : Gathering → ℕ × Path → List code.Candidate
 of_stacks g path = flat_map (of_stack g path) stacks
 
@@ -63,5 +65,6 @@ of_stacks g path = flat_map (of_stack g path) stacks
 abbrev pub of_path : Gathering → ℕ × Path → List code.Candidate
 of_path g path = if path_survives g.selection g.locals path.1 then of_stacks g path else []
 
+-- the leaf of a triple as the code keeps it
 abbrev pub leaf : code.Candidate → Leaf
 leaf c = record { path = c.path; target = record { stack = c.stack; address = c.address } }

@@ -34,6 +34,7 @@ pub record Candidate : Type 0 where
   pub place : ℕ
   pub address : Address
 
+-- the triple of these
 abbrev pub candidate_of : ℕ × Path → Stack → ℕ × Address → Candidate
 candidate_of (path_place, path) stack (place, address) = record { path_place = path_place; path = path; stack = stack; place = place; address = address }
 
@@ -41,6 +42,7 @@ candidate_of (path_place, path) stack (place, address) = record { path_place = p
 abbrev pub candidates : Gathering → List Candidate
 candidates g = flat_map (λ path. flat_map (λ stack. map (candidate_of path stack) (enumerate_from 0 g.addresses)) stacks) (enumerate_from 0 g.paths)
 
+-- the triple may be tried
 abbrev pub survives : Gathering → Path → Stack → Address → Bool
 survives g path stack address = survival.survives g.selection g.role g.locals path stack address
 

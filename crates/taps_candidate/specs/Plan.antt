@@ -11,6 +11,7 @@ use Rattle.taps_candidate.specs.declared.plan.Plan.{Plan}
 use Rattle.taps_candidate.specs.Gathering.{Gathering, Candidate, survivors}
 use Rattle.taps_candidate.specs.Ranking.{rank_key}
 
+-- the leaf of a triple
 abbrev pub leaf_of : Candidate → Leaf
 leaf_of c = record { path = c.path_place; target = record { stack = c.stack; address = c.address } }
 
@@ -34,6 +35,7 @@ pub record RankedPlan : Type 0 where
   pub leaves : List Leaf
   pub gaps : List Gap
 
+-- the ranked leaves, and the gap before each
 abbrev pub plan_of : Gathering → Mode → ℕ → RankedPlan
 plan_of g mode delay = record { leaves = leaves_of g; gaps = gaps_of mode delay (length (leaves_of g)) }
 

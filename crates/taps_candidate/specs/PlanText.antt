@@ -1,4 +1,4 @@
--- The plan as a text (this project's own).
+-- The plan as a text (local).
 use Rattle.std.specs.Prelude.{ℕ, ◌+◌, List, [], ◌∷◌, ◌++◌, codes, length}
 use Rattle.std.specs.Fmt.{decimal}
 use Rattle.taps_base.specs.declared.gap.Gap.{Gap}
@@ -14,6 +14,7 @@ use Rattle.taps_candidate.specs.declared.plan.Leaf.{Leaf}
 abbrev pub interface_of : Preconnection → ℕ → List ℕ
 interface_of pre place = (path_of pre place).interface
 
+-- the word of a stack
 abbrev pub stack_word : Stack → List ℕ
 stack_word Tcp = codes "tcp"
 stack_word Unix = codes "unix"

@@ -1,4 +1,4 @@
--- The key by which triples are ranked (RFC 9623 section 4.1; the key is this project's own).
+-- The key by which triples are ranked (RFC 9623 section 4.1; the key is local).
 use Rattle.std.specs.Prelude.{ℕ, List, [], ◌∷◌, filter, map}
 use Rattle.std.specs.List.{enumerate_from}
 use Rattle.taps_endpoint.specs.declared.address.Address.{Address}

@@ -4,9 +4,8 @@
 
 mod candidate;
 mod plan;
-#[cfg(test)]
-mod tests;
 mod text;
 
 pub use plan::{Leaf, Plan, build_plan};
+pub use taps_base::Gap;
 pub use text::{plan_string, plan_text};

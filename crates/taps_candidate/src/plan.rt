@@ -28,7 +28,7 @@ pub struct Plan {
     pub gaps: List<Gap>,
 }
 
-/// The plan of a race over these addresses, each of which stands there once.
+/// The plan of a race over these addresses, each of which is listed once.
 #[tactic(auto, using(crate::proofs::FewLeaves::few_leaves))]
 pub fn build_plan(
     alloc: Global,

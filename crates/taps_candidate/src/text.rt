@@ -9,7 +9,7 @@ use taps_base::{Body, Gap, NoMemory};
 use taps_preconnection::Preconnection;
 use taps_stack::Stack;
 
-/// A line for each leaf, and before them their number.
+/// The number of leaves, and a line for each.
 pub fn plan_text(alloc: Global, pre: &Preconnection, plan: &Plan) -> Result<Body, NoMemory>
     requires even { length plan.now.leaves.items ≡ length plan.now.gaps.items }
     requires placed { All (λ leaf. leaf.path < length pre.now.paths.items) plan.now.leaves.items }
@@ -19,7 +19,7 @@ pub fn plan_text(alloc: Global, pre: &Preconnection, plan: &Plan) -> Result<Body
     Ok(Body::from_text(text))
 }
 
-/// The same as a string, to which more can be put.
+/// The same as a string, to which more can be appended.
 #[tactic(auto, unfolding(crate::specs::PlanText::plan_text))]
 pub fn plan_string(alloc: Global, pre: &Preconnection, plan: &Plan) -> Result<String, NoMemory>
     requires even { length plan.now.leaves.items ≡ length plan.now.gaps.items }
@@ -28,11 +28,11 @@ pub fn plan_string(alloc: Global, pre: &Preconnection, plan: &Plan) -> Result<St
 {
     let count = plan.leaves.len();
     let mut text = format!(in alloc; "leaves {count}\n")?;
-    put_leaves(&mut text, pre, plan.leaves.as_slice(), plan.gaps.as_slice())?;
+    append_leaves(&mut text, pre, plan.leaves.as_slice(), plan.gaps.as_slice())?;
     Ok(text)
 }
 
-fn put_leaves(
+fn append_leaves(
     text: &mut String,
     pre: &Preconnection,
     leaves: &[Leaf],
@@ -43,13 +43,13 @@ fn put_leaves(
     ensures { OnOk result (string_bytes text.new ≡ string_bytes text.old ++ texts.leaf_lines (texts.interface_of pre.now) 0 leaves.now gaps.now) }
 {
     for (number, leaf) in leaves.iter().enumerate() {
-        put_leaf(text, pre, number, leaf, &gaps[number])?;
+        append_leaf(text, pre, number, leaf, &gaps[number])?;
     }
     Ok(())
 }
 
 #[tactic(auto, unfolding(crate::specs::PlanText::leaf_line))]
-fn put_leaf(
+fn append_leaf(
     text: &mut String,
     pre: &Preconnection,
     number: usize,
@@ -62,10 +62,8 @@ fn put_leaf(
     let interface = &pre.path(leaf.path as usize).interface;
     let stack = StackWord(leaf.target.stack);
     let address = leaf.target.address;
-    match gap {
-        Gap::After(delay) => write!(text, "{number} {interface} {stack} {address} +{delay}\n"),
-        Gap::Never => write!(text, "{number} {interface} {stack} {address} +none\n"),
-    }
+    let gap = GapWord(*gap);
+    write!(text, "{number} {interface} {stack} {address} +{gap}\n")
 }
 
 #[derive(Clone, Copy)]
@@ -79,6 +77,20 @@ impl fmt::Display for StackWord {
             Stack::Tcp => write!(f, "tcp"),
             Stack::Unix => write!(f, "unix"),
             Stack::Udp => write!(f, "udp"),
+        }
+    }
+}
+
+#[derive(Clone, Copy)]
+struct GapWord(Gap);
+
+impl fmt::Display for GapWord {
+    ghost output = { λ word. Some (texts.gap_text word.0) };
+
+    fn fmt<W: fmt::Write>(&self, f: &mut fmt::Formatter<W>) -> fmt::Result {
+        match self.0 {
+            Gap::After(delay) => write!(f, "{delay}"),
+            Gap::Never => write!(f, "none"),
         }
     }
 }

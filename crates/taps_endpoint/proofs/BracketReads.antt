@@ -1,10 +1,10 @@
 -- A machine in brackets reads the grammar of the machine inside, in brackets.
 use Rattle.std.proofs.Common.{◌≡◌, ℕ, ◌==◌, List, [], ◌∷◌, ◌++◌, Option, Some, None, refl, ◌∙◌, inl, inr, arith, append_assoc}
-use Rattle.std.specs.Option.{option_map}
 use Rattle.std.proofs.lemmas.Option.{cond_some}
 use Rattle.std.proofs.lemmas.Bool.{cases_Bool}
 use Rattle.std.proofs.lemmas.Bool.Decides.{nat_tests}
 use Rattle.std.proofs.lemmas.List.{append-nil}
+use Rattle.taps_base.proofs.Results.{map_some}
 use Rattle.taps_endpoint.specs.declared.bracketed.Bracketed.{Bracketed}
 use Rattle.taps_endpoint.specs.declared.bracketed.Bracketed.TheVariants.{Outside, Inside, Closed}
 use Rattle.taps_endpoint.specs.Machines.{run, Accepts, Reads}
@@ -50,10 +50,6 @@ abbrev ReadSo : {S A : Type 0} → (A → List ℕ → Type 0) → (S → ℕ �
 ReadSo IsText step start Outside text = text ≡ []
 ReadSo IsText step start (Inside s) text = (x : List ℕ) × (run step start x ≡ Some s) × (text ≡ 91 ∷ x)
 ReadSo IsText step start (Closed a) text = IsBracketed IsText a text
-
-map_some : {A B : Type 0} (f : A → B) (o : Option A) (y : B) → option_map f o ≡ Some y → (x : A) × (o ≡ Some x) × (f x ≡ y)
-map_some f None y e = absurd (cc)
-map_some f (Some x) y e = (x, refl, cc)
 
 next_read : {S A : Type 0} (IsText : A → List ℕ → Type 0) (step : S → ℕ → Option S) (at_end : S → Option A) (start : S) → Reads IsText step at_end start
     → (r t : Bracketed S A) (text : List ℕ) (b : ℕ) → ReadSo IsText step start r text → step_bracketed step at_end start r b ≡ Some t → ReadSo IsText step start t (text ++ b ∷ [])

@@ -6,6 +6,7 @@ use Rattle.std.proofs.lemmas.Option.{cond_some}
 use Rattle.std.proofs.lemmas.Bool.{cases_Bool}
 use Rattle.std.proofs.lemmas.Bool.Decides.{nat_tests}
 use Rattle.std.proofs.lemmas.List.{append-nil}
+use Rattle.taps_base.proofs.Results.{map_some}
 use Rattle.taps_endpoint.specs.declared.inet4.Inet4State.{Inet4State}
 use Rattle.taps_endpoint.specs.declared.inet4.Before.{Before}
 use Rattle.taps_endpoint.specs.declared.inet4.Before.TheVariants.{Zero, One, Two, Three}
@@ -73,10 +74,6 @@ passes (Two x y) n b after fits high e =
     let dot : b ≡ 46 = grind (arith, nat_tests) in
     rw (← is, dot) (record { fits = (fits.0, fits.1, high); same = λ y. refl })
 passes (Three x y z) n b after fits high e = absurd (cc)
-
-map_some : {A B : Type 0} (f : A → B) (o : Option A) (y : B) → option_map f o ≡ Some y → (x : A) × (o ≡ Some x) × (f x ≡ y)
-map_some f None y e = absurd (cc)
-map_some f (Some x) y e = (x, refl, cc)
 
 zero_least : (number : Option ℕ) → IfSome number (λ n. 0 ≤ n)
 zero_least None = tt

@@ -17,6 +17,7 @@ use Rattle.taps_endpoint.specs.Inet4Machine.{begun, fresh, step_inet4}
 use Rattle.taps_endpoint.specs.Inet6Machine.{room, quad_fits, reading, begin, step_inet6, fields_of, at_end_inet6, start_inet6}
 use Rattle.taps_endpoint.specs.Inet4Texts.{IsInet4Text}
 use Rattle.taps_endpoint.specs.Inet6Texts.{hex_digit, hex_from, AreLed, IsLast, AreJoined, IsFront, IsBack, IsInet6Text}
+use Rattle.taps_endpoint.proofs.MachineRuns.{then_some}
 use Rattle.taps_endpoint.proofs.NumberRuns.{Holds as NumberHolds, number_runs}
 use Rattle.taps_endpoint.proofs.Inet4Reads.{range, number_on}
 
@@ -35,10 +36,6 @@ is_hex b d e = elim (cases_Bool (b == 58)) [
     | inr not_dot ↦ record { colon = not_colon; dot = not_dot }
   ]
 ]
-
-pub then_some : {A B : Type 0} (f : A → Option B) (o : Option A) (y : B) → option_and_then f o ≡ Some y → (x : A) × (o ≡ Some x) × (f x ≡ Some y)
-then_some f None y e = absurd (cc)
-then_some f (Some x) y e = (x, refl, e)
 
 -- the IPv4 machine beside the field, over more bytes
 abbrev beside : Option Inet4State → List ℕ → Option Inet4State

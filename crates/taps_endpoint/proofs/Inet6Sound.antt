@@ -6,6 +6,7 @@ use Rattle.std.proofs.lemmas.Option.{cond_some}
 use Rattle.std.proofs.lemmas.Bool.{cases_Bool}
 use Rattle.std.proofs.lemmas.Bool.Decides.{nat_tests}
 use Rattle.std.proofs.lemmas.List.{append-nil}
+use Rattle.taps_base.proofs.Results.{map_some}
 use Rattle.taps_endpoint.specs.declared.inet6.Inet6State.{Inet6State}
 use Rattle.taps_endpoint.specs.declared.inet6.Token.{Token}
 use Rattle.taps_endpoint.specs.declared.inet6.Token.TheVariants.{Start, FirstColon, Gap, Colon, Digits, Quad}
@@ -16,8 +17,8 @@ use Rattle.taps_endpoint.specs.Machines.{run, Accepts}
 use Rattle.taps_endpoint.specs.Inet4Machine.{begun, fresh, step_inet4}
 use Rattle.taps_endpoint.specs.Inet6Machine.{room, quad_fits, reading, begin, open_gap, after_field, next, step_inet6, fields_of, quad_fields, quad_of, end_of, at_end_inet6, start_inet6}
 use Rattle.taps_endpoint.specs.Inet6Texts.{hex_digit, hex_from, IsField, AreLed, IsLast, AreJoined, spread, IsFront, IsBack, IsInet6Text}
-use Rattle.taps_endpoint.proofs.MachineRuns.{run_on, run_first, run_one}
-use Rattle.taps_endpoint.proofs.Inet6Accepts.{then_some, hex_append, last_some}
+use Rattle.taps_endpoint.proofs.MachineRuns.{run_on, run_first, run_one, then_some}
+use Rattle.taps_endpoint.proofs.Inet6Accepts.{hex_append, last_some}
 use Rattle.taps_endpoint.proofs.Inet4Reads.{read_so}
 
 -- What runs is the beginning of a text: an opening up to the `::`, fields with a `:` behind each, and what is read now.
@@ -57,10 +58,6 @@ pub record Read (front : Option (List ℕ)) (fields : List ℕ) (token : Token) 
 
 abbrev pub ReadSo : Inet6State → List ℕ → Type 0
 ReadSo s text = Read s.front s.fields s.token text
-
-map_some : {A B : Type 0} (f : A → B) (o : Option A) (y : B) → option_map f o ≡ Some y → (x : A) × (o ≡ Some x) × (f x ≡ y)
-map_some f None y e = absurd (cc)
-map_some f (Some x) y e = (x, refl, cc)
 
 -- the fields stay, and a byte more is read
 stay : (front : Option (List ℕ)) (fields : List ℕ) (token after : Token) (text : List ℕ) (b : ℕ) → (read : Read front fields token text) → Now front fields after (read.now ++ b ∷ []) → Read front fields after (text ++ b ∷ [])

@@ -28,7 +28,8 @@ run_one step s b = and_some (step s b)
 pub run_more : {S : Type 0} (step : S → ℕ → Option S) (start s : S) (text : List ℕ) (i : ℕ) → i < length text → run step start (take i text) ≡ Some s → run step start (take (i + 1) text) ≡ step s (get_or text i 0)
 run_more step start s text i lt so_far = rw (take_more text i 0 lt, run_on step start s (take i text) (get_or text i 0 ∷ []) so_far) (run_one step s (get_or text i 0))
 
-then_some : {A B : Type 0} (f : A → Option B) (o : Option A) (y : B) → option_and_then f o ≡ Some y → (x : A) × (o ≡ Some x) × (f x ≡ Some y)
+-- a step that succeeded after another: both succeeded
+pub then_some : {A B : Type 0} (f : A → Option B) (o : Option A) (y : B) → option_and_then f o ≡ Some y → (x : A) × (o ≡ Some x) × (f x ≡ Some y)
 then_some f None y e = absurd (cc)
 then_some f (Some x) y e = (x, refl, e)
 

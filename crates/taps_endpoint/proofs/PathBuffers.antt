@@ -20,8 +20,8 @@ front_count : (bytes : List ℕ) (count : ℕ) → IsPaddedFront bytes count →
 front_count bytes count front = length-take-le count bytes (rw front.whole front.fits)
 
 -- a write at the first of the zeros
-set_zeros : (zeros k b : ℕ) → zeros ≡ suc k → set (replicate zeros 0) 0 b ≡ b ∷ replicate k 0
-set_zeros zeros k b is = rw is refl
+set_zeros : (count k b : ℕ) → count ≡ suc k → set (replicate count 0) 0 b ≡ b ∷ replicate k 0
+set_zeros count k b is = rw is refl
 
 set_behind : (bytes : List ℕ) (count k b : ℕ) → IsPaddedFront bytes count → 107 - count ≡ suc k → set bytes count b ≡ take count bytes ++ b ∷ replicate k 0
 set_behind bytes count k b front is =

@@ -5,6 +5,7 @@ use Rattle.std.specs.Fmt.{decimal}
 use Rattle.std.proofs.lemmas.Bool.{cases_Bool}
 use Rattle.std.proofs.lemmas.Bool.Decides.{nat_tests}
 use Rattle.std.proofs.lemmas.List.{append-nil}
+use Rattle.taps_base.proofs.Results.{map_some}
 use Rattle.taps_endpoint.specs.declared.with_port.WithPort.{WithPort}
 use Rattle.taps_endpoint.specs.declared.with_port.WithPort.TheVariants.{Inside, Port}
 use Rattle.taps_endpoint.specs.Machines.{run, Accepts, Reads}
@@ -66,10 +67,6 @@ accepts IsText step at_end start reads stops value text is =
 abbrev ReadSo : {S A : Type 0} → (A → List ℕ → Type 0) → (S → ℕ → Option S) → S → WithPort S A → List ℕ → Type 0
 ReadSo IsText step start (Inside s) text = run step start text ≡ Some s
 ReadSo IsText step start (Port a number) text = (x : List ℕ) × IsText a x × IfSome number (λ n. 1 ≤ n) × IfSome number (λ n. n ≤ 65535) × (text ≡ x ++ 58 ∷ number_and number [])
-
-map_some : {A B : Type 0} (f : A → B) (o : Option A) (y : B) → option_map f o ≡ Some y → (x : A) × (o ≡ Some x) × (f x ≡ y)
-map_some f None y e = absurd (cc)
-map_some f (Some x) y e = (x, refl, cc)
 
 port_and : (number : Option ℕ) (b n : ℕ) → Grows 1 65535 number b n → number_and number [] ++ b ∷ [] ≡ number_and (Some n) []
 port_and None b n more = more.same []

@@ -1,10 +1,15 @@
 -- A machine over the bytes of a text: its steps, and the value where a text may end.
-use Rattle.std.specs.Prelude.{◌≡◌, ℕ, ◌+◌, ◌<◌, List, [], ◌∷◌, ◌++◌, ◌⊎◌, length, take, slice_index, Option, Some, None, ok_or, option_and_then, Result, Err}
+use Rattle.std.specs.Prelude.{◌≡◌, Bool, true, false, ℕ, ◌+◌, ◌<◌, List, [], ◌∷◌, ◌++◌, ◌⊎◌, length, take, slice_index, Option, Some, None, ok_or, option_and_then, Result, Err}
 
 -- the state behind these bytes
 abbrev pub run : {S : Type 0} → (S → ℕ → Option S) → S → List ℕ → Option S
 run step s [] = Some s
 run step s (b ∷ rest) = option_and_then (λ t. run step t rest) (step s b)
+
+-- the machine has moved to the state behind one more byte, or there is none
+abbrev pub Advances : {S : Type 0} → Option S → Bool → S → Type 0
+Advances behind true new = behind ≡ Some new
+Advances behind false new = behind ≡ None
 
 -- the machine reads the whole text and gives this value
 abbrev pub Accepts : {S A : Type 0} → (S → ℕ → Option S) → (S → Option A) → S → List ℕ → A → Type 0

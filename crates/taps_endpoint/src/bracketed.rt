@@ -26,29 +26,36 @@ impl<M: Machine> Machine for Bracketed<M, M::Value> {
         Bracketed::Outside
     }
 
-    fn advance(self, byte: u8) -> Option<Self> {
+    fn advance(&mut self, byte: u8) -> bool {
         match self {
             Bracketed::Outside => {
                 if byte == b'[' {
-                    return Some(Bracketed::Inside(M::begin()));
+                    *self = Bracketed::Inside(M::begin());
+                    return true;
                 }
-                None
+                false
             }
             Bracketed::Inside(state) => {
                 if byte == b']' {
-                    return Some(Bracketed::Closed(state.finish()?));
+                    return match state.finish() {
+                        Some(value) => {
+                            *self = Bracketed::Closed(value);
+                            true
+                        }
+                        None => false,
+                    };
                 }
-                Some(Bracketed::Inside(state.advance(byte)?))
+                state.advance(byte)
             }
-            Bracketed::Closed(_) => None,
+            Bracketed::Closed(_) => false,
         }
     }
 
-    fn finish(self) -> Option<Self::Value> {
+    fn finish(&self) -> Option<Self::Value> {
         match self {
             Bracketed::Outside => None,
             Bracketed::Inside(_) => None,
-            Bracketed::Closed(value) => Some(value),
+            Bracketed::Closed(value) => Some(*value),
         }
     }
 }

@@ -43,6 +43,26 @@ impl Fields {
         self.count += 1;
     }
 
+    /// The same fields once more.
+    pub fn copy(&self) -> Fields
+        ensures { result ≡ self.now }
+    {
+        Fields {
+            fields: self.fields,
+            count: self.count,
+        }
+    }
+
+    /// Takes all fields, which leaves none.
+    pub fn take(&mut self) -> Fields
+        ensures taken { result ≡ self.old }
+        ensures left { self.new ≡ [] }
+    {
+        let taken = self.copy();
+        self.count = 0;
+        taken
+    }
+
     fn get(&self, index: usize) -> u16
         requires fits { index < 8 }
         requires within { index < length self.now }

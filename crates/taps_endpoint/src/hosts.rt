@@ -33,12 +33,13 @@ impl Hosts {
     }
 
     /// Gives a name these addresses, in place of those that it had.
-    pub fn put(&mut self, alloc: Global, name: Name, ips: List<Ip>) -> Result<(), NoMemory>
+    pub fn put(&mut self, name: Name, ips: List<Ip>) -> Result<(), NoMemory>
         ensures table { OnOk result (self.new ≡ put_host self.old name ips.items) }
         ensures set { OnOk result (find_host self.new name ≡ Some ips.items) }
         ensures others { OnOk result ((other : Items ℕ) → bytes_eq other name ≡ false → find_host self.new other ≡ find_host self.old other) }
         ensures unchanged { OnErr result (self.new ≡ self.old) }
     {
+        let alloc = *self.table.allocator();
         let key = String::from_str(alloc, name.as_str())?;
         self.table.insert(key, ips)?;
         Ok(())

@@ -1,4 +1,4 @@
-ghost use Rattle.std.specs.Prelude.{◌≡◌, ◌≤◌};
+ghost use Rattle.std.specs.Prelude.{◌≡◌, ◌≤◌, IfSome};
 ghost use Rattle.taps_endpoint.specs.Inet4Machine.{passed, step_inet4, at_end_inet4, fresh, AreOctets};
 ghost use Rattle.taps_endpoint.specs.Inet6Machine.{quad_of};
 ghost use Rattle.taps_endpoint.specs.declared.inet4.Before.TheVariants.{Zero};
@@ -60,30 +60,46 @@ impl Machine for Inet4State {
     }
 
     #[tactic(auto, unfolding(crate::specs::Inet4Machine::step_inet4))]
-    fn advance(self, byte: u8) -> Option<Self> {
-        let before = self.before;
-        if byte.is_ascii_digit() {
-            let number = one_digit_more(0, 255, self.number, u16::from(byte - b'0'))?;
-            return Some(Inet4State {
-                before,
-                number: Some(number),
-            });
+    fn advance(&mut self, byte: u8) -> bool {
+        match step(*self, byte) {
+            Some(next) => {
+                *self = next;
+                true
+            }
+            None => false,
         }
-        let before = pass(before, self.number?, byte)?;
-        Some(Inet4State {
-            before,
-            number: None,
-        })
     }
 
     #[tactic(auto, unfolding(crate::specs::Inet4Machine::at_end_inet4))]
-    fn finish(self) -> Option<Self::Value> {
+    fn finish(&self) -> Option<Self::Value> {
         let number = self.number?;
         match self.before {
             Before::Three(a, b, c) => Some([a, b, c, number as u8]),
             _ => None,
         }
     }
+}
+
+/// The state behind one more byte.
+#[tactic(auto, unfolding(crate::specs::Inet4Machine::step_inet4))]
+pub fn step(state: Inet4State, byte: u8) -> Option<Inet4State>
+    requires { AreOctets state }
+    ensures steps { result ≡ step_inet4 state byte }
+    ensures small { IfSome result AreOctets }
+{
+    let before = state.before;
+    if byte.is_ascii_digit() {
+        let number = one_digit_more(0, 255, state.number, u16::from(byte - b'0'))?;
+        return Some(Inet4State {
+            before,
+            number: Some(number),
+        });
+    }
+    let before = pass(before, state.number?, byte)?;
+    Some(Inet4State {
+        before,
+        number: None,
+    })
 }
 
 impl Whole for Inet4State {

@@ -16,8 +16,6 @@ mod number;
 mod parse;
 mod path_bytes;
 mod remote;
-#[cfg(test)]
-mod tests;
 mod unix;
 mod unix_path;
 mod with_port;

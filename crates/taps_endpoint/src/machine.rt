@@ -1,9 +1,9 @@
-ghost use Rattle.std.specs.Prelude.{◌≡◌, ℕ, Option, IfSome, is_some};
-ghost use Rattle.taps_endpoint.specs.Machines.{answer_of};
+ghost use Rattle.std.specs.Prelude.{◌≡◌, ℕ, Option, IsTrue, is_some};
+ghost use Rattle.taps_endpoint.specs.Machines.{Advances, answer_of};
 
-/// A state of a machine that reads a value, byte by byte.
+/// A state of a machine that reads a value, byte by byte. It is changed in place.
 pub trait Machine: Drop + Sized {
-    type Value: Drop;
+    type Value: Copy;
 
     ghost step: { Self → ℕ → Option Self };
 
@@ -18,16 +18,16 @@ pub trait Machine: Drop + Sized {
         ensures start { result ≡ start }
         ensures small { is_small result };
 
-    /// The state behind one more byte.
-    fn advance(self, byte: u8) -> Option<Self>
-        requires { is_small self }
-        ensures steps { result ≡ step self byte }
-        ensures small { IfSome result is_small };
+    /// Reads one more byte, or says that it may not follow.
+    fn advance(&mut self, byte: u8) -> bool
+        requires { is_small self.old }
+        ensures steps { Advances (step self.old byte) result self.new }
+        ensures small { IsTrue result → is_small self.new };
 
     /// The value, if the text may end here.
-    fn finish(self) -> Option<Self::Value>
-        requires { is_small self }
-        ensures { result ≡ at_end self };
+    fn finish(&self) -> Option<Self::Value>
+        requires { is_small self.now }
+        ensures { result ≡ at_end self.now };
 }
 
 /// A machine that tells whether a text may end here.
@@ -42,9 +42,8 @@ pub fn read<M: Machine>(text: &[u8]) -> Result<M::Value, u64>
 {
     let mut state = M::begin();
     for (index, byte) in text.iter().enumerate() {
-        match state.advance(*byte) {
-            Some(next) => state = next,
-            None => return Err(index as u64),
+        if !state.advance(*byte) {
+            return Err(index as u64);
         }
     }
     state.finish().ok_or(text.len() as u64)

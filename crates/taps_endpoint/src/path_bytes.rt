@@ -52,11 +52,10 @@ impl PathBytes {
     }
 
     /// The path that they are.
-    pub fn whole(self) -> UnixPath
-        requires { 1 ≤ length self }
-        ensures { result ≡ self }
+    pub fn whole(&self) -> UnixPath
+        requires { 1 ≤ length self.now }
+        ensures { result ≡ self.now }
     {
-        let PathBytes { bytes, count } = self;
-        UnixPath::from_parts(bytes, count)
+        UnixPath::from_parts(self.bytes, self.count)
     }
 }

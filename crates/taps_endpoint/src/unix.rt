@@ -32,51 +32,55 @@ impl Machine for Unfinished {
     }
 
     #[tactic(auto, unfolding(crate::specs::UnixTexts::step_unix))]
-    fn advance(self, byte: u8) -> Option<Self> {
+    fn advance(&mut self, byte: u8) -> bool {
         match self {
             Unfinished::Start => {
                 if byte == b'u' {
-                    return Some(Unfinished::U);
+                    *self = Unfinished::U;
+                    return true;
                 }
-                None
+                false
             }
             Unfinished::U => {
                 if byte == b'n' {
-                    return Some(Unfinished::Un);
+                    *self = Unfinished::Un;
+                    return true;
                 }
-                None
+                false
             }
             Unfinished::Un => {
                 if byte == b'i' {
-                    return Some(Unfinished::Uni);
+                    *self = Unfinished::Uni;
+                    return true;
                 }
-                None
+                false
             }
             Unfinished::Uni => {
                 if byte == b'x' {
-                    return Some(Unfinished::Unix);
+                    *self = Unfinished::Unix;
+                    return true;
                 }
-                None
+                false
             }
             Unfinished::Unix => {
                 if byte == b':' {
-                    return Some(Unfinished::Path(PathBytes::new()));
+                    *self = Unfinished::Path(PathBytes::new());
+                    return true;
                 }
-                None
+                false
             }
             Unfinished::Path(path) => {
-                let mut path = path;
                 if path.count() < 107 && byte >= 33 && byte <= 126 {
                     path.push(byte);
-                    return Some(Unfinished::Path(path));
+                    return true;
                 }
-                None
+                false
             }
         }
     }
 
     #[tactic(auto, unfolding(crate::specs::UnixTexts::at_end_unix))]
-    fn finish(self) -> Option<Self::Value> {
+    fn finish(&self) -> Option<Self::Value> {
         match self {
             Unfinished::Start => None,
             Unfinished::U => None,

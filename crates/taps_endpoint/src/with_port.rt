@@ -26,28 +26,39 @@ impl<M: Whole> Machine for WithPort<M, M::Value> {
         WithPort::Inside(M::begin())
     }
 
-    fn advance(self, byte: u8) -> Option<Self> {
+    fn advance(&mut self, byte: u8) -> bool {
         match self {
             WithPort::Inside(state) => {
                 if byte == b':' && state.is_whole() {
-                    return Some(WithPort::Port(state.finish()?, None));
+                    return match state.finish() {
+                        Some(value) => {
+                            *self = WithPort::Port(value, None);
+                            true
+                        }
+                        None => false,
+                    };
                 }
-                Some(WithPort::Inside(state.advance(byte)?))
+                state.advance(byte)
             }
-            WithPort::Port(value, number) => {
-                if byte.is_ascii_digit() {
-                    let number = one_digit_more(1, 65535, number, u16::from(byte - b'0'))?;
-                    return Some(WithPort::Port(value, Some(number)));
+            WithPort::Port(_, number) => {
+                if !byte.is_ascii_digit() {
+                    return false;
                 }
-                None
+                match one_digit_more(1, 65535, *number, u16::from(byte - b'0')) {
+                    Some(longer) => {
+                        *number = Some(longer);
+                        true
+                    }
+                    None => false,
+                }
             }
         }
     }
 
-    fn finish(self) -> Option<Self::Value> {
+    fn finish(&self) -> Option<Self::Value> {
         match self {
             WithPort::Inside(_) => None,
-            WithPort::Port(value, number) => Some((value, number?)),
+            WithPort::Port(value, number) => Some((*value, (*number)?)),
         }
     }
 }

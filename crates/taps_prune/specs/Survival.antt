@@ -18,16 +18,17 @@ use Rattle.taps_stack.specs.StackTable.{offers, carries, is_stream}
 abbrev pub meets_all : Selection → Stack → Bool
 meets_all selection stack = list_all (λ (preference, property). is_met preference (offers stack property)) (zip selection.stack stack_properties)
 
--- a role that awaits connections takes streams alone (this project's own rule)
+-- a role that awaits connections takes streams alone (local)
 abbrev pub suits : Role → Stack → Bool
 suits Initiate stack = true
 suits Listen stack = is_stream stack
 suits Rendezvous stack = is_stream stack
 
+-- the stack meets what is asked of stacks and suits the role
 abbrev pub stack_survives : Selection → Role → Stack → Bool
 stack_survives selection role stack = meets_all selection stack && suits role stack
 
--- each entry is met by whether the interface is the path's (every entry has to be met: this project's own rule)
+-- each entry is met by whether the interface is the path's (that every entry has to be met is local)
 abbrev pub meets_interfaces : Selection → Path → Bool
 meets_interfaces selection path = list_all (λ entry. is_met entry.preference (offers_interface path entry.name)) selection.interface.items
 
@@ -44,9 +45,11 @@ abbrev pub is_interface_of : Path → Option (List ℕ) → Bool
 is_interface_of path None = false
 is_interface_of path (Some name) = offers_interface path name
 
+-- no local names an interface
 abbrev pub name_none : List Local → Bool
 name_none locals = list_all (λ local. is_none local.interface) locals
 
+-- some local names the path's interface
 abbrev pub name_interface_of : Path → List Local → Bool
 name_interface_of path locals = list_any (λ local. is_interface_of path local.interface) locals
 
@@ -54,6 +57,7 @@ name_interface_of path locals = list_any (λ local. is_interface_of path local.i
 abbrev pub is_local : List Local → Path → Bool
 is_local locals path = name_none locals || name_interface_of path locals
 
+-- the path meets what is asked of paths, and the locals allow it
 abbrev pub path_survives : Selection → List Local → Path → Bool
 path_survives selection locals path = meets_path selection path && is_local locals path
 
@@ -61,6 +65,7 @@ path_survives selection locals path = meets_path selection path && is_local loca
 abbrev pub is_reachable : Path → Stack → Address → Bool
 is_reachable path stack address = carries stack (family_of address) && leads_to path (family_of address)
 
+-- path, stack and address may be tried together
 abbrev pub survives : Selection → Role → List Local → Path → Stack → Address → Bool
 survives selection role locals path stack address =
     path_survives selection locals path && stack_survives selection role stack && is_reachable path stack address

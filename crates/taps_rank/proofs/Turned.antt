@@ -10,11 +10,11 @@ use Rattle.std.proofs.lemmas.Simd.{map-map}
 use Rattle.taps_endpoint.specs.declared.address.Address.{Address}
 use Rattle.taps_endpoint.specs.declared.address.Family.{Family}
 use Rattle.taps_endpoint.specs.declared.address.Family.TheVariants.{Inet4, Inet6, Unix}
-use Rattle.taps_endpoint.specs.Families.{family_of}
+use Rattle.taps_endpoint.specs.Families.{family_of, is_same_family}
 use Rattle.taps_rank.specs.declared.turn.Turn.{Turn}
 use Rattle.taps_rank.specs.declared.turn.Turns.{Turns}
 use Rattle.taps_rank.specs.Order.{turn_key}
-use Rattle.taps_rank.specs.Turns.{placed_family, is_same_family, round_of, side_of, turn_of, count_of, first_of, first_or, turns_after, round_in, turn_in, turns_with}
+use Rattle.taps_rank.specs.Turns.{placed_family, round_of, side_of, turn_of, count_of, first_of, first_or, turns_after, round_in, turn_in, turns_with}
 
 round_after : (families : List Family) (family : Family) → round_in (turns_after families) family ≡ count_of family families
 round_after families Inet4 = refl

@@ -1,4 +1,4 @@
--- The parts of a rank key that count preferences (RFC 9622 section 6.2; counting them is this project's own).
+-- The parts of a rank key that count preferences (RFC 9622 section 6.2; counting them is local).
 use Rattle.std.specs.Prelude.{ℕ, ◌+◌, Bool, true, false, count_by}
 use Rattle.std.specs.List.{zip}
 use Rattle.taps_preconnection.specs.declared.path.Path.{Path}
@@ -17,6 +17,7 @@ unmet_interfaces selection path = count_by (λ entry. is_soft_unmet entry.prefer
 abbrev pub unmet_pvds : Selection → Path → ℕ
 unmet_pvds selection path = count_by (λ entry. is_soft_unmet entry.preference (offers_pvd path entry.name)) selection.pvd.items
 
+-- 1 for what holds, else 0
 abbrev pub one_if : Bool → ℕ
 one_if true = 1
 one_if false = 0

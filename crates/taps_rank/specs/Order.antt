@@ -1,4 +1,4 @@
--- The order by rank keys (RFC 9623 section 4.1; the keys are this project's own).
+-- The order by rank keys (RFC 9623 section 4.1; the keys are local).
 use Rattle.std.specs.Prelude.{ℕ, ◌==◌, List, [], ◌∷◌, Bool, Option, count_by, length, map}
 use Rattle.std.specs.List.{find, filter_map, range_with_len, enumerate_from}
 use Rattle.std.specs.Ordering.{nat_cmp, is_lt}

@@ -1,22 +1,11 @@
 -- How the families of addresses take turns (RFC 8305 section 4 with a First Address Family Count of 1).
-use Rattle.std.specs.Prelude.{ℕ, ◌+◌, List, [], ◌∷◌, Bool, true, false, ◌&&◌, Option, Some, None, count_by, nat_lt, slice_index, slice_set, if◌then◌else◌}
+use Rattle.std.specs.Prelude.{ℕ, ◌+◌, List, [], ◌∷◌, ◌&&◌, Option, Some, None, count_by, nat_lt, slice_index, slice_set, if◌then◌else◌}
 use Rattle.taps_endpoint.specs.declared.address.Address.{Address}
 use Rattle.taps_endpoint.specs.declared.address.Family.{Family}
 use Rattle.taps_endpoint.specs.declared.address.Family.TheVariants.{Inet4, Inet6, Unix}
-use Rattle.taps_endpoint.specs.Families.{family_of}
+use Rattle.taps_endpoint.specs.Families.{family_of, is_same_family}
 use Rattle.taps_rank.specs.declared.turn.Turn.{Turn}
 use Rattle.taps_rank.specs.declared.turn.Turns.{Turns}
-
-abbrev pub is_same_family : Family → Family → Bool
-is_same_family Inet4 Inet4 = true
-is_same_family Inet4 Inet6 = false
-is_same_family Inet4 Unix = false
-is_same_family Inet6 Inet4 = false
-is_same_family Inet6 Inet6 = true
-is_same_family Inet6 Unix = false
-is_same_family Unix Inet4 = false
-is_same_family Unix Inet6 = false
-is_same_family Unix Unix = true
 
 -- an address's place and family
 abbrev pub placed_family : ℕ × Address → ℕ × Family
@@ -39,6 +28,7 @@ turn_of addresses (place, family) = record { round = round_of addresses place fa
 abbrev pub count_of : Family → List Family → ℕ
 count_of family families = count_by (λ other. is_same_family other family) families
 
+-- the first family, if there is one
 abbrev pub first_of : List Family → Option Family
 first_of [] = None
 first_of (first ∷ others) = Some first
@@ -47,14 +37,17 @@ first_of (first ∷ others) = Some first
 abbrev pub turns_after : List Family → Turns
 turns_after families = record { rounds = count_of Inet4 families ∷ count_of Inet6 families ∷ count_of Unix families ∷ []; first = first_of families }
 
+-- a family's place among the numbers of rounds
 abbrev pub family_place : Family → ℕ
 family_place Inet4 = 0
 family_place Inet6 = 1
 family_place Unix = 2
 
+-- how many addresses of the family have had a turn
 abbrev pub round_in : Turns → Family → ℕ
 round_in turns family = slice_index turns.rounds (family_place family)
 
+-- the first family, or this one if there was none
 abbrev pub first_or : Option Family → Family → Family
 first_or None family = family
 first_or (Some first) family = first

@@ -4,8 +4,6 @@
 
 mod key;
 mod order;
-#[cfg(test)]
-mod tests;
 mod turn;
 
 pub use key::{path_key, stack_key};

@@ -1,4 +1,4 @@
--- The line of a race's answer (this project's own).
+-- The line of a race's answer (local).
 use Rattle.std.specs.Prelude.{ℕ, List, ◌++◌, codes}
 use Rattle.std.specs.Fmt.{decimal}
 use Rattle.taps_socket.specs.declared.race_answer.RaceAnswer.{RaceAnswer}

@@ -1,4 +1,4 @@
--- The lines of messages and frames, with their bytes in hexadecimal (this project's own).
+-- The lines of messages and frames, with their bytes in hexadecimal (local).
 use Rattle.std.specs.Prelude.{ℕ, ◌+◌, ◌/◌, ◌%◌, nat_lt, if◌then◌else◌, List, [], ◌∷◌, ◌++◌, codes}
 use Rattle.std.specs.Fmt.{decimal}
 use Rattle.std.specs.List.{flat_map}
@@ -32,7 +32,7 @@ part_line member number body = codes "part " ++ (decimal member ++ (codes " " ++
 unfoldable pub message_line : ℕ → List ℕ → List ℕ
 message_line number body = codes "message " ++ (decimal number ++ (codes " " ++ (hex_text body ++ codes "\n")))
 
--- how many bytes are left behind the messages
+-- how many bytes follow the messages
 unfoldable pub rest_line : ℕ → List ℕ
 rest_line count = codes "rest " ++ (decimal count ++ codes "\n")
 

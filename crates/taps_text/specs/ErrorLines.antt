@@ -1,10 +1,10 @@
--- The lines on the error output (this project's own).
+-- The lines on the error output (local).
 use Rattle.std.specs.Prelude.{ℕ, List, ◌++◌, codes, map}
 use Rattle.taps_text.specs.Printed.{printed}
 use Rattle.taps_text.specs.Refusals.{refusal_text}
 use Rattle.taps_text.specs.declared.refusal.Refusal.{Refusal}
 
--- the words are no form
+-- the arguments are no command
 abbrev pub usage_line : List ℕ
 usage_line = codes "taps: usage\n"
 

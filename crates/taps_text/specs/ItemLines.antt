@@ -1,4 +1,4 @@
--- The line of each item of a trace (this project's own).
+-- The line of each item of a trace (local).
 use Rattle.std.specs.Prelude.{ℕ, List, ◌++◌, codes}
 use Rattle.std.specs.List.{flat_map}
 use Rattle.std.specs.Fmt.{decimal}
@@ -8,7 +8,7 @@ use Rattle.taps_socket.specs.declared.item.How.TheVariants.{Reached, Completed, 
 use Rattle.taps_socket.specs.declared.item.How.TheVariants as ends
 use Rattle.taps_socket.specs.declared.item.Item.{Item}
 use Rattle.taps_socket.specs.declared.item.Item.TheVariants.{Began, Started, Refused, Waited, Closed, Listening, NotListening, Accepted, Faulted, Shut, Ended, DataFailed}
-use Rattle.taps_socket.specs.ScriptTexts.{cause_word}
+use Rattle.taps_socket.specs.CauseWords.{cause_word}
 
 -- how a line with a moment ends
 abbrev pub at_moment : ℕ → List ℕ
@@ -36,6 +36,6 @@ item_line (Shut socket) = codes "shut " ++ (decimal socket ++ codes "\n")
 item_line (Ended socket) = codes "ended " ++ (decimal socket ++ codes "\n")
 item_line (DataFailed socket sending cause) = codes "failed " ++ (decimal socket ++ (codes " " ++ (cause_word cause ++ codes "\n")))
 
--- a line an item, the first item first
+-- a line for each item, oldest first
 abbrev pub item_lines : List Item → List ℕ
 item_lines items = flat_map item_line items

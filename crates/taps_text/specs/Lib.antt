@@ -1,3 +1,4 @@
+pub mod Appends
 pub mod Printed
 pub mod Refusals
 pub mod ErrorLines
@@ -5,4 +6,5 @@ pub mod ItemLines
 pub mod AnswerLines
 pub mod OutcomeLines
 pub mod BodyLines
+pub mod Parts
 pub mod Log

@@ -1,4 +1,4 @@
--- The log of a session, behind its plan text (this project's own).
+-- The log of a session, which follows its plan text (local).
 use Rattle.std.specs.Prelude.{ℕ, List, [], ◌++◌}
 use Rattle.taps_socket.specs.declared.item.Item.{Item}
 use Rattle.taps_socket.specs.declared.race_answer.RaceAnswer.{RaceAnswer}
@@ -14,6 +14,6 @@ abbrev pub exchange_lines : RaceAnswer → List Item → Outcome → List ℕ
 exchange_lines (Ready leaf socket at) after outcome = item_lines after ++ (sent_line 0 0 ++ outcome_line outcome)
 exchange_lines _ after outcome = []
 
--- the race's items, its answer, and what follows it; the items stand with the first one first
+-- the race's items, its answer, and what follows it; the items are oldest first
 unfoldable pub log_of : List Item → RaceAnswer → List Item → Outcome → List ℕ
 log_of race answer after outcome = item_lines race ++ (answer_line answer ++ exchange_lines answer after outcome)

@@ -1,7 +1,7 @@
--- The line of how a session ended (this project's own).
+-- The line of how a session ended (local).
 use Rattle.std.specs.Prelude.{ℕ, List, ◌++◌, codes}
 use Rattle.std.specs.Fmt.{decimal}
-use Rattle.taps_socket.specs.ScriptTexts.{cause_word}
+use Rattle.taps_socket.specs.CauseWords.{cause_word}
 use Rattle.taps_text.specs.declared.outcome.Outcome.{Outcome}
 use Rattle.taps_text.specs.declared.outcome.Outcome.TheVariants.{Done, Timed, DataFailed, PeerEnded, BadFrame, NotSpeakable, Expired, CloneLimit, CloneAllFailed, CloneTimeout, SocketFault}
 

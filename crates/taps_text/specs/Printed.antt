@@ -1,4 +1,4 @@
--- How bytes of names and keys are printed (this project's own).
+-- How bytes of names and keys are printed (local).
 use Rattle.std.specs.Prelude.{ℕ, ◌&&◌, nat_le, if◌then◌else◌}
 
 -- a visible character as it is, any other byte as `?`

@@ -1,8 +1,8 @@
--- The first check that a file fails, and its words (this project's own).
+-- The first check that a file fails, and its words (local).
 use Rattle.std.specs.Prelude.{ℕ, List, [], ◌++◌, codes, map}
 use Rattle.std.specs.Fmt.{decimal}
-use Rattle.taps_preconnection.specs.declared.pre_error.PreError.{PreError}
-use Rattle.taps_preconnection.specs.declared.pre_error.PreError.TheVariants.{NotToml, UnknownKey, WrongKind, OutOfRange, BadAddress, BadHex, TooMany, NoRemote, NoMemory}
+use Rattle.taps_table.specs.declared.pre_error.PreError.{PreError}
+use Rattle.taps_table.specs.declared.pre_error.PreError.TheVariants.{NotToml, UnknownKey, WrongKind, OutOfRange, BadAddress, BadHex, TooMany, NoRemote, NoMemory}
 use Rattle.taps_text.specs.Printed.{printed}
 use Rattle.taps_text.specs.declared.refusal.Refusal.{Refusal}
 use Rattle.taps_text.specs.declared.refusal.Refusal.TheVariants.{TooLong, File, NotYet, UnknownFramer, TooManyRemotes, Script}

@@ -1,12 +1,13 @@
 ghost use Rattle.std.specs.Prelude.{◌≡◌, ◌<◌, length, IfOk};
 ghost use Rattle.taps_text.specs.ErrorLines as lines;
 
-use crate::line::{put, put_shown};
-use crate::refusal::{Refusal, put_refusal};
+use crate::part::Part::{Shown, Words};
+use crate::part::{append, append_parts};
+use crate::refusal::{Refusal, append_refusal};
 use std::alloc::Global;
 use taps_base::NoMemory;
 
-/// The line where the words are no form.
+/// The line for arguments that are no command.
 pub fn usage_line() -> &'static [u8]
     ensures { result.now ≡ lines.usage_line }
 {
@@ -20,11 +21,12 @@ pub fn refused_line(alloc: Global, name: &[u8], why: &Refusal) -> Result<Vec<u8>
     ensures some { IfOk result (λ line. 0 < length line.items) }
 {
     let mut line = Vec::new(alloc);
-    put(&mut line, b"taps: refused ")?;
-    put_shown(&mut line, name)?;
-    put(&mut line, b": ")?;
-    put_refusal(&mut line, why)?;
-    put(&mut line, b"\n")?;
+    append_parts(
+        &mut line,
+        &[Words(b"taps: refused "), Shown(name), Words(b": ")],
+    )?;
+    append_refusal(&mut line, why)?;
+    append(&mut line, b"\n")?;
     Ok(line)
 }
 
@@ -35,9 +37,10 @@ pub fn fault_line(alloc: Global, name: &[u8]) -> Result<Vec<u8>, NoMemory>
     ensures some { IfOk result (λ line. 0 < length line.items) }
 {
     let mut line = Vec::new(alloc);
-    put(&mut line, b"taps: file fault ")?;
-    put_shown(&mut line, name)?;
-    put(&mut line, b"\n")?;
+    append_parts(
+        &mut line,
+        &[Words(b"taps: file fault "), Shown(name), Words(b"\n")],
+    )?;
     Ok(line)
 }
 

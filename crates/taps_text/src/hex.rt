@@ -1,25 +1,26 @@
 // Bytes in hexadecimal.
-ghost use Rattle.std.specs.Prelude.{◌≡◌, ◌++◌, ◌*◌, ◌<◌, length, OnOk};
+ghost use Rattle.std.specs.Prelude.{◌≡◌, ◌*◌, ◌<◌, length};
 ghost use Rattle.std.specs.List.{flat_map};
+ghost use Rattle.taps_text.specs.Appends.{Appends};
 ghost use Rattle.taps_text.specs.BodyLines.{hex_digit, byte_digits, hex_text};
 
-use crate::line::put;
+use crate::part::append;
 use taps_base::NoMemory;
 
-/// Bytes as two digits each, and no bytes as `-`.
-pub(crate) fn put_hex(text: &mut Vec<u8>, bytes: &[u8]) -> Result<(), NoMemory>
-    ensures { OnOk result (text.new.items ≡ text.old.items ++ hex_text bytes.now) }
+/// Appends bytes as two digits each, and no bytes as `-`.
+pub(crate) fn append_hex(text: &mut Vec<u8>, bytes: &[u8]) -> Result<(), NoMemory>
+    ensures { Appends result text.old.items text.new.items (hex_text bytes.now) }
 {
     if bytes.is_empty() {
-        put(text, b"-")
+        append(text, b"-")
     } else {
-        put_digits(text, bytes)
+        append_digits(text, bytes)
     }
 }
 
-// The place is made at once, and then written.
-fn put_digits(text: &mut Vec<u8>, bytes: &[u8]) -> Result<(), NoMemory>
-    ensures { OnOk result (text.new.items ≡ text.old.items ++ flat_map byte_digits bytes.now) }
+// The room is made at once, and then written.
+fn append_digits(text: &mut Vec<u8>, bytes: &[u8]) -> Result<(), NoMemory>
+    ensures { Appends result text.old.items text.new.items (flat_map byte_digits bytes.now) }
 {
     let size = 2 * bytes.len();
     text.reserve(size)?;

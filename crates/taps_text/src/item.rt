@@ -1,20 +1,21 @@
 // The line of an item of a trace.
-ghost use Rattle.std.specs.Prelude.{◌≡◌, ◌++◌, OnOk, codes};
+ghost use Rattle.std.specs.Prelude.{◌++◌, codes};
 ghost use Rattle.std.specs.Fmt.{decimal};
 ghost use Rattle.taps_endpoint.specs.CanonicalTexts.{canonical_text};
-ghost use Rattle.taps_socket.specs.ScriptTexts.{cause_word};
+ghost use Rattle.taps_socket.specs.CauseWords.{cause_word};
+ghost use Rattle.taps_text.specs.Appends.{Appends};
 ghost use Rattle.taps_text.specs.ItemLines.{at_moment, how_text, item_line, item_lines};
 
-use crate::cause::{put_last_cause, word_of};
-use crate::line::{put, put_behind, put_last};
-use std::io::Write;
+use crate::cause::word_of;
+use crate::part::Part::{Number, Place, Words};
+use crate::part::append_parts;
 use taps_base::NoMemory;
 use taps_endpoint::Address;
 use taps_socket::{Cause, How, Item};
 
-/// Puts a line for each item behind a text, in their order.
+/// Appends a line for each item to the text, in their order.
 pub fn put_items(text: &mut Vec<u8>, items: &[Item]) -> Result<(), NoMemory>
-    ensures { OnOk result (text.new.items ≡ text.old.items ++ item_lines items.now) }
+    ensures { Appends result text.old.items text.new.items (item_lines items.now) }
 {
     for item in items {
         put_item(text, item)?;
@@ -22,140 +23,188 @@ pub fn put_items(text: &mut Vec<u8>, items: &[Item]) -> Result<(), NoMemory>
     Ok(())
 }
 
-/// Puts the line of an item behind a text.
+/// Appends the line of an item to the text.
 #[tactic(auto, unfolding(crate::specs::ItemLines::item_line))]
 pub fn put_item(text: &mut Vec<u8>, item: &Item) -> Result<(), NoMemory>
-    ensures { OnOk result (text.new.items ≡ text.old.items ++ item_line item.now) }
+    ensures { Appends result text.old.items text.new.items (item_line item.now) }
 {
     match item {
-        Item::Began { at } => put_last(text, b"begin ", *at),
+        Item::Began { at } => append_last(text, b"begin ", *at),
         Item::Started {
             leaf,
             target: _,
             socket,
             at,
-        } => put_started(text, *leaf, *socket, *at),
+        } => append_started(text, *leaf, *socket, *at),
         Item::Refused {
             leaf,
             target: _,
             cause,
             at,
-        } => put_refused(text, *leaf, *cause, *at),
-        Item::Waited { until, at, how } => put_waited(text, *until, *at, *how),
-        Item::Closed { socket } => put_last(text, b"close ", *socket as u64),
+        } => append_refused(text, *leaf, *cause, *at),
+        Item::Waited { until, at, how } => append_waited(text, *until, *at, *how),
+        Item::Closed { socket } => append_last(text, b"close ", *socket as u64),
         Item::Listening { target, socket, at } => {
-            put_listening(text, *socket, &target.address, *at)
+            append_listening(text, *socket, &target.address, *at)
         }
         Item::NotListening {
             target: _,
             cause,
             at,
-        } => put_cause_at(text, b"listen refused ", *cause, *at),
+        } => append_not_listening(text, *cause, *at),
         Item::Accepted {
             listener,
             socket,
             at,
-        } => put_accepted(text, *socket, *listener, *at),
-        Item::Faulted { at } => put_last(text, b"faulted at ", *at),
-        Item::Shut { socket } => put_last(text, b"shut ", *socket as u64),
-        Item::Ended { socket } => put_last(text, b"ended ", *socket as u64),
+        } => append_accepted(text, *socket, *listener, *at),
+        Item::Faulted { at } => append_last(text, b"faulted at ", *at),
+        Item::Shut { socket } => append_last(text, b"shut ", *socket as u64),
+        Item::Ended { socket } => append_last(text, b"ended ", *socket as u64),
         Item::DataFailed {
             socket,
             sending: _,
             cause,
-        } => put_failed(text, *socket, *cause),
+        } => append_failed(text, *socket, *cause),
     }
 }
 
-fn put_started(text: &mut Vec<u8>, leaf: u32, socket: u32, at: u64) -> Result<(), NoMemory>
-    ensures { OnOk result (text.new.items ≡ text.old.items ++ (codes "start " ++ (decimal leaf ++ (codes " socket " ++ (decimal socket ++ at_moment at))))) }
+// Words, a number, and the end of the line.
+fn append_last(text: &mut Vec<u8>, words: &[u8], number: u64) -> Result<(), NoMemory>
+    ensures { Appends result text.old.items text.new.items (words.now ++ (decimal number ++ codes "\n")) }
 {
-    put_behind(text, b"start ", leaf as u64)?;
-    put_behind(text, b" socket ", socket as u64)?;
-    put_at(text, at)
+    append_parts(text, &[Number(words, number), Words(b"\n")])
 }
 
-fn put_refused(text: &mut Vec<u8>, leaf: u32, cause: Cause, at: u64) -> Result<(), NoMemory>
-    ensures { OnOk result (text.new.items ≡ text.old.items ++ (codes "start " ++ (decimal leaf ++ (codes " refused " ++ (cause_word cause ++ at_moment at))))) }
+fn append_started(text: &mut Vec<u8>, leaf: u32, socket: u32, at: u64) -> Result<(), NoMemory>
+    ensures { Appends result text.old.items text.new.items (codes "start " ++ (decimal leaf ++ (codes " socket " ++ (decimal socket ++ at_moment at)))) }
 {
-    put_behind(text, b"start ", leaf as u64)?;
-    put_cause_at(text, b" refused ", cause, at)
+    append_parts(
+        text,
+        &[
+            Number(b"start ", leaf as u64),
+            Number(b" socket ", socket as u64),
+            Number(b" at ", at),
+            Words(b"\n"),
+        ],
+    )
 }
 
-fn put_waited(text: &mut Vec<u8>, until: u64, at: u64, how: How) -> Result<(), NoMemory>
-    ensures { OnOk result (text.new.items ≡ text.old.items ++ (codes "wait " ++ (decimal until ++ how_text how at))) }
+fn append_refused(text: &mut Vec<u8>, leaf: u32, cause: Cause, at: u64) -> Result<(), NoMemory>
+    ensures { Appends result text.old.items text.new.items (codes "start " ++ (decimal leaf ++ (codes " refused " ++ (cause_word cause ++ at_moment at)))) }
 {
-    put_behind(text, b"wait ", until)?;
-    put_how(text, how, at)
+    append_parts(
+        text,
+        &[
+            Number(b"start ", leaf as u64),
+            Words(b" refused "),
+            Words(word_of(cause)),
+            Number(b" at ", at),
+            Words(b"\n"),
+        ],
+    )
 }
 
-fn put_how(text: &mut Vec<u8>, how: How, at: u64) -> Result<(), NoMemory>
-    ensures { OnOk result (text.new.items ≡ text.old.items ++ how_text how at) }
+fn append_waited(text: &mut Vec<u8>, until: u64, at: u64, how: How) -> Result<(), NoMemory>
+    ensures { Appends result text.old.items text.new.items (codes "wait " ++ (decimal until ++ how_text how at)) }
 {
     match how {
-        How::Reached => put_last(text, b" reached ", at),
-        How::Completed(socket) => {
-            put_behind(text, b" completed ", socket as u64)?;
-            put_at(text, at)
-        }
-        How::Broke(socket, cause) => {
-            put_behind(text, b" broke ", socket as u64)?;
-            put_cause_at(text, b" ", cause, at)
-        }
-        How::Faulted => put_last(text, b" faulted at ", at),
+        How::Reached => append_parts(
+            text,
+            &[
+                Number(b"wait ", until),
+                Number(b" reached ", at),
+                Words(b"\n"),
+            ],
+        ),
+        How::Completed(socket) => append_parts(
+            text,
+            &[
+                Number(b"wait ", until),
+                Number(b" completed ", socket as u64),
+                Number(b" at ", at),
+                Words(b"\n"),
+            ],
+        ),
+        How::Broke(socket, cause) => append_parts(
+            text,
+            &[
+                Number(b"wait ", until),
+                Number(b" broke ", socket as u64),
+                Words(b" "),
+                Words(word_of(cause)),
+                Number(b" at ", at),
+                Words(b"\n"),
+            ],
+        ),
+        How::Faulted => append_parts(
+            text,
+            &[
+                Number(b"wait ", until),
+                Number(b" faulted at ", at),
+                Words(b"\n"),
+            ],
+        ),
     }
 }
 
-fn put_listening(
+fn append_listening(
     text: &mut Vec<u8>,
     socket: u32,
     address: &Address,
     at: u64,
 ) -> Result<(), NoMemory>
-    ensures { OnOk result (text.new.items ≡ text.old.items ++ (codes "listen " ++ (decimal socket ++ (codes " " ++ (canonical_text address.now ++ at_moment at))))) }
+    ensures { Appends result text.old.items text.new.items (codes "listen " ++ (decimal socket ++ (codes " " ++ (canonical_text address.now ++ at_moment at)))) }
 {
-    put_behind(text, b"listen ", socket as u64)?;
-    put(text, b" ")?;
-    put_address(text, address)?;
-    put_at(text, at)
+    append_parts(
+        text,
+        &[
+            Number(b"listen ", socket as u64),
+            Words(b" "),
+            Place(address),
+            Number(b" at ", at),
+            Words(b"\n"),
+        ],
+    )
 }
 
-// It is printed into the text itself, with no copy.
-fn put_address(text: &mut Vec<u8>, address: &Address) -> Result<(), NoMemory>
-    ensures { OnOk result (text.new.items ≡ text.old.items ++ canonical_text address.now) }
+fn append_not_listening(text: &mut Vec<u8>, cause: Cause, at: u64) -> Result<(), NoMemory>
+    ensures { Appends result text.old.items text.new.items (codes "listen refused " ++ (cause_word cause ++ at_moment at)) }
 {
-    match write!(text, "{address}") {
-        Ok(()) => Ok(()),
-        Err(_) => Err(NoMemory),
-    }
+    append_parts(
+        text,
+        &[
+            Words(b"listen refused "),
+            Words(word_of(cause)),
+            Number(b" at ", at),
+            Words(b"\n"),
+        ],
+    )
 }
 
-fn put_accepted(text: &mut Vec<u8>, socket: u32, listener: u32, at: u64) -> Result<(), NoMemory>
-    ensures { OnOk result (text.new.items ≡ text.old.items ++ (codes "accept " ++ (decimal socket ++ (codes " from " ++ (decimal listener ++ at_moment at))))) }
+fn append_accepted(text: &mut Vec<u8>, socket: u32, listener: u32, at: u64) -> Result<(), NoMemory>
+    ensures { Appends result text.old.items text.new.items (codes "accept " ++ (decimal socket ++ (codes " from " ++ (decimal listener ++ at_moment at)))) }
 {
-    put_behind(text, b"accept ", socket as u64)?;
-    put_behind(text, b" from ", listener as u64)?;
-    put_at(text, at)
+    append_parts(
+        text,
+        &[
+            Number(b"accept ", socket as u64),
+            Number(b" from ", listener as u64),
+            Number(b" at ", at),
+            Words(b"\n"),
+        ],
+    )
 }
 
-fn put_failed(text: &mut Vec<u8>, socket: u32, cause: Cause) -> Result<(), NoMemory>
-    ensures { OnOk result (text.new.items ≡ text.old.items ++ (codes "failed " ++ (decimal socket ++ (codes " " ++ (cause_word cause ++ codes "\n"))))) }
+fn append_failed(text: &mut Vec<u8>, socket: u32, cause: Cause) -> Result<(), NoMemory>
+    ensures { Appends result text.old.items text.new.items (codes "failed " ++ (decimal socket ++ (codes " " ++ (cause_word cause ++ codes "\n")))) }
 {
-    put_behind(text, b"failed ", socket as u64)?;
-    put_last_cause(text, b" ", cause)
-}
-
-// Words, a cause behind them, and a moment.
-fn put_cause_at(text: &mut Vec<u8>, words: &[u8], cause: Cause, at: u64) -> Result<(), NoMemory>
-    ensures { OnOk result (text.new.items ≡ text.old.items ++ (words.now ++ (cause_word cause ++ at_moment at))) }
-{
-    put(text, words)?;
-    put(text, word_of(cause))?;
-    put_at(text, at)
-}
-
-fn put_at(text: &mut Vec<u8>, at: u64) -> Result<(), NoMemory>
-    ensures { OnOk result (text.new.items ≡ text.old.items ++ at_moment at) }
-{
-    put_last(text, b" at ", at)
+    append_parts(
+        text,
+        &[
+            Number(b"failed ", socket as u64),
+            Words(b" "),
+            Words(word_of(cause)),
+            Words(b"\n"),
+        ],
+    )
 }

@@ -7,12 +7,10 @@ mod cause;
 mod error_line;
 mod hex;
 mod item;
-mod line;
 mod log;
 mod outcome;
+mod part;
 mod refusal;
-#[cfg(test)]
-mod tests;
 
 pub use answer::put_answer;
 pub use body::{put_frame, put_message, put_part, put_received, put_rest, put_sent};

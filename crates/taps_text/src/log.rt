@@ -1,4 +1,5 @@
-ghost use Rattle.std.specs.Prelude.{◌≡◌, ◌++◌, OnOk};
+ghost use Rattle.std.specs.Prelude.{◌++◌};
+ghost use Rattle.taps_text.specs.Appends.{Appends};
 ghost use Rattle.taps_text.specs.BodyLines.{sent_line};
 ghost use Rattle.taps_text.specs.ItemLines.{item_lines};
 ghost use Rattle.taps_text.specs.Log.{exchange_lines, log_of};
@@ -11,7 +12,7 @@ use crate::outcome::{Outcome, put_outcome};
 use taps_base::NoMemory;
 use taps_socket::{Item, RaceAnswer};
 
-/// Puts the log of a session behind its plan text: the items of its race and the answer; and of a
+/// Appends the log of a session to its plan text: the items of its race and the answer; and of a
 /// ready race the items after it, what its one member sent, which is nothing, and how it ended.
 #[tactic(auto, unfolding(crate::specs::Log::log_of))]
 pub fn put_log(
@@ -21,27 +22,27 @@ pub fn put_log(
     after: &[Item],
     outcome: Outcome,
 ) -> Result<(), NoMemory>
-    ensures { OnOk result (text.new.items ≡ text.old.items ++ log_of race.now answer after.now outcome) }
+    ensures { Appends result text.old.items text.new.items (log_of race.now answer after.now outcome) }
 {
     put_items(text, race)?;
     put_answer(text, answer)?;
-    put_exchange(text, answer, after, outcome)
+    append_exchange(text, answer, after, outcome)
 }
 
-fn put_exchange(
+fn append_exchange(
     text: &mut Vec<u8>,
     answer: RaceAnswer,
     after: &[Item],
     outcome: Outcome,
 ) -> Result<(), NoMemory>
-    ensures { OnOk result (text.new.items ≡ text.old.items ++ exchange_lines answer after.now outcome) }
+    ensures { Appends result text.old.items text.new.items (exchange_lines answer after.now outcome) }
 {
     match answer {
         RaceAnswer::Ready {
             leaf: _,
             socket: _,
             at: _,
-        } => put_session(text, after, outcome),
+        } => append_session(text, after, outcome),
         RaceAnswer::NoCandidate => Ok(()),
         RaceAnswer::AllFailed => Ok(()),
         RaceAnswer::Timeout => Ok(()),
@@ -50,8 +51,8 @@ fn put_exchange(
     }
 }
 
-fn put_session(text: &mut Vec<u8>, after: &[Item], outcome: Outcome) -> Result<(), NoMemory>
-    ensures { OnOk result (text.new.items ≡ text.old.items ++ (item_lines after.now ++ (sent_line 0 0 ++ outcome_line outcome))) }
+fn append_session(text: &mut Vec<u8>, after: &[Item], outcome: Outcome) -> Result<(), NoMemory>
+    ensures { Appends result text.old.items text.new.items (item_lines after.now ++ (sent_line 0 0 ++ outcome_line outcome)) }
 {
     put_items(text, after)?;
     put_sent(text, 0, 0)?;

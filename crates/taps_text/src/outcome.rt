@@ -1,9 +1,9 @@
-ghost use Rattle.std.specs.Prelude.{◌≡◌, ◌++◌, OnOk, codes};
-ghost use Rattle.std.specs.Fmt.{decimal};
+ghost use Rattle.taps_text.specs.Appends.{Appends};
 ghost use Rattle.taps_text.specs.OutcomeLines.{outcome_line};
 
-use crate::cause::put_last_cause;
-use crate::line::{put, put_behind, put_last, put_two};
+use crate::cause::word_of;
+use crate::part::Part::{Number, Words};
+use crate::part::{append, append_parts};
 use taps_base::NoMemory;
 use taps_socket::Cause;
 
@@ -18,9 +18,9 @@ pub enum Outcome {
     DataFailed(Cause),
     /// The other end sends no more, and not all was heard.
     PeerEnded,
-    /// The bytes behind so many messages are no frame, from this place of this layer on.
+    /// The bytes after so many messages start no frame, from this place of this layer on.
     BadFrame { message: u64, layer: u8, place: u64 },
-    /// This layer does not speak a member's message.
+    /// This layer cannot encode a member's message.
     NotSpeakable { member: u64, number: u64, layer: u8 },
     /// A member's message was not sent in its time.
     Expired { member: u64, number: u64 },
@@ -34,43 +34,59 @@ pub enum Outcome {
     SocketFault,
 }
 
-/// Puts the line of an outcome behind a text.
+/// Appends the line of an outcome to the text.
 #[tactic(auto, unfolding(crate::specs::OutcomeLines::outcome_line))]
 pub fn put_outcome(text: &mut Vec<u8>, outcome: Outcome) -> Result<(), NoMemory>
-    ensures { OnOk result (text.new.items ≡ text.old.items ++ outcome_line outcome) }
+    ensures { Appends result text.old.items text.new.items (outcome_line outcome) }
 {
     match outcome {
-        Outcome::Done => put(text, b"done\n"),
-        Outcome::Timed => put(text, b"timed\n"),
-        Outcome::DataFailed(cause) => put_last_cause(text, b"data-failed ", cause),
-        Outcome::PeerEnded => put(text, b"peer-ended\n"),
+        Outcome::Done => append(text, b"done\n"),
+        Outcome::Timed => append(text, b"timed\n"),
+        Outcome::DataFailed(cause) => append_parts(
+            text,
+            &[Words(b"data-failed "), Words(word_of(cause)), Words(b"\n")],
+        ),
+        Outcome::PeerEnded => append(text, b"peer-ended\n"),
         Outcome::BadFrame {
             message,
             layer,
             place,
-        } => put_three(text, b"bad-frame ", message, layer as u64, place),
+        } => append_parts(
+            text,
+            &[
+                Number(b"bad-frame ", message),
+                Number(b" ", layer as u64),
+                Number(b" ", place),
+                Words(b"\n"),
+            ],
+        ),
         Outcome::NotSpeakable {
             member,
             number,
             layer,
-        } => put_three(text, b"not-speakable ", member, number, layer as u64),
-        Outcome::Expired { member, number } => put_two(text, b"expired ", member, number),
-        Outcome::CloneLimit(limit) => put_last(text, b"clone-error limit-reached ", limit),
-        Outcome::CloneAllFailed => put(text, b"clone-error all-failed\n"),
-        Outcome::CloneTimeout => put(text, b"clone-error timeout\n"),
-        Outcome::SocketFault => put(text, b"socket-fault\n"),
+        } => append_parts(
+            text,
+            &[
+                Number(b"not-speakable ", member),
+                Number(b" ", number),
+                Number(b" ", layer as u64),
+                Words(b"\n"),
+            ],
+        ),
+        Outcome::Expired { member, number } => append_parts(
+            text,
+            &[
+                Number(b"expired ", member),
+                Number(b" ", number),
+                Words(b"\n"),
+            ],
+        ),
+        Outcome::CloneLimit(limit) => append_parts(
+            text,
+            &[Number(b"clone-error limit-reached ", limit), Words(b"\n")],
+        ),
+        Outcome::CloneAllFailed => append(text, b"clone-error all-failed\n"),
+        Outcome::CloneTimeout => append(text, b"clone-error timeout\n"),
+        Outcome::SocketFault => append(text, b"socket-fault\n"),
     }
-}
-
-fn put_three(
-    text: &mut Vec<u8>,
-    words: &[u8],
-    first: u64,
-    second: u64,
-    third: u64,
-) -> Result<(), NoMemory>
-    ensures { OnOk result (text.new.items ≡ text.old.items ++ (words.now ++ (decimal first ++ (codes " " ++ (decimal second ++ (codes " " ++ (decimal third ++ codes "\n"))))))) }
-{
-    put_behind(text, words, first)?;
-    put_two(text, b" ", second, third)
 }

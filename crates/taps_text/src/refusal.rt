@@ -1,8 +1,8 @@
-ghost use Rattle.std.specs.Prelude.{◌≡◌, ◌++◌, OnOk};
-ghost use Rattle.std.specs.Fmt.{decimal};
-ghost use Rattle.taps_text.specs.Refusals.{shown, file_text, refusal_text};
+ghost use Rattle.taps_text.specs.Appends.{Appends};
+ghost use Rattle.taps_text.specs.Refusals.{file_text, refusal_text};
 
-use crate::line::{put, put_behind, put_shown};
+use crate::part::Part::{Number, Shown, Words};
+use crate::part::{append, append_parts};
 use taps_base::NoMemory;
 use taps_preconnection::PreError;
 
@@ -11,7 +11,7 @@ use taps_preconnection::PreError;
 pub enum Refusal {
     /// It has more bytes than are read.
     TooLong,
-    /// It gives no Preconnection, and not for want of memory.
+    /// It gives no Preconnection, for a reason other than out of memory.
     File(PreError),
     /// It asks for what does not work so far.
     NotYet,
@@ -23,57 +23,59 @@ pub enum Refusal {
     Script(u64),
 }
 
-/// Puts the words of a refusal behind a line.
+/// Appends the words of a refusal to the line.
 #[tactic(auto, unfolding(crate::specs::Refusals::refusal_text))]
-pub(crate) fn put_refusal(line: &mut Vec<u8>, why: &Refusal) -> Result<(), NoMemory>
-    ensures { OnOk result (line.new.items ≡ line.old.items ++ refusal_text why.now) }
+pub(crate) fn append_refusal(line: &mut Vec<u8>, why: &Refusal) -> Result<(), NoMemory>
+    ensures { Appends result line.old.items line.new.items (refusal_text why.now) }
 {
     match why {
-        Refusal::TooLong => put(line, b"too long"),
-        Refusal::File(refused) => put_file(line, refused),
-        Refusal::NotYet => put(line, b"not yet"),
-        Refusal::UnknownFramer(place) => {
-            put_between(line, b"unknown framer framers[", *place, b"]")
+        Refusal::TooLong => append(line, b"too long"),
+        Refusal::File(refused) => append_file(line, refused),
+        Refusal::NotYet => append(line, b"not yet"),
+        Refusal::UnknownFramer(place) => append_parts(
+            line,
+            &[Number(b"unknown framer framers[", *place), Words(b"]")],
+        ),
+        Refusal::TooManyRemotes(count) => {
+            append_parts(line, &[Number(b"too many remote ", *count)])
         }
-        Refusal::TooManyRemotes(count) => put_behind(line, b"too many remote ", *count),
-        Refusal::Script(number) => put_behind(line, b"script line ", *number),
+        Refusal::Script(number) => append_parts(line, &[Number(b"script line ", *number)]),
     }
 }
 
 #[tactic(auto, unfolding(crate::specs::Refusals::file_text))]
-fn put_file(line: &mut Vec<u8>, refused: &PreError) -> Result<(), NoMemory>
-    ensures { OnOk result (line.new.items ≡ line.old.items ++ file_text refused.now) }
+fn append_file(line: &mut Vec<u8>, refused: &PreError) -> Result<(), NoMemory>
+    ensures { Appends result line.old.items line.new.items (file_text refused.now) }
 {
     match refused {
-        PreError::NotToml => put(line, b"not toml"),
-        PreError::UnknownKey(key) => put_words_and_key(line, b"unknown key ", key.bytes()),
-        PreError::WrongKind(key) => put_words_and_key(line, b"wrong kind ", key.bytes()),
-        PreError::OutOfRange(key) => put_words_and_key(line, b"out of range ", key.bytes()),
-        PreError::BadAddress(key, place) => {
-            put_words_and_key(line, b"bad address ", key.bytes())?;
-            put_behind(line, b" ", *place)
+        PreError::NotToml => append(line, b"not toml"),
+        PreError::UnknownKey(key) => {
+            append_parts(line, &[Words(b"unknown key "), Shown(key.bytes())])
         }
-        PreError::BadHex(key) => put_words_and_key(line, b"bad hex ", key.bytes()),
-        PreError::TooMany(key, count) => {
-            put_words_and_key(line, b"too many ", key.bytes())?;
-            put_behind(line, b" ", *count)
+        PreError::WrongKind(key) => {
+            append_parts(line, &[Words(b"wrong kind "), Shown(key.bytes())])
         }
-        PreError::NoRemote => put(line, b"no remote"),
+        PreError::OutOfRange(key) => {
+            append_parts(line, &[Words(b"out of range "), Shown(key.bytes())])
+        }
+        PreError::BadAddress(key, place) => append_parts(
+            line,
+            &[
+                Words(b"bad address "),
+                Shown(key.bytes()),
+                Number(b" ", *place),
+            ],
+        ),
+        PreError::BadHex(key) => append_parts(line, &[Words(b"bad hex "), Shown(key.bytes())]),
+        PreError::TooMany(key, count) => append_parts(
+            line,
+            &[
+                Words(b"too many "),
+                Shown(key.bytes()),
+                Number(b" ", *count),
+            ],
+        ),
+        PreError::NoRemote => append(line, b"no remote"),
         PreError::NoMemory => Ok(()),
     }
-}
-
-fn put_words_and_key(line: &mut Vec<u8>, words: &[u8], key: &[u8]) -> Result<(), NoMemory>
-    ensures { OnOk result (line.new.items ≡ line.old.items ++ (words.now ++ shown key.now)) }
-{
-    put(line, words)?;
-    put_shown(line, key)
-}
-
-// A number between words.
-fn put_between(line: &mut Vec<u8>, words: &[u8], number: u64, end: &[u8]) -> Result<(), NoMemory>
-    ensures { OnOk result (line.new.items ≡ line.old.items ++ (words.now ++ (decimal number ++ end.now))) }
-{
-    put_behind(line, words, number)?;
-    put(line, end)
 }

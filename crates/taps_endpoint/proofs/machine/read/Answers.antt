@@ -1,16 +1,16 @@
-use Rattle.std.proofs.Common.{◌≡◌, ◌≤◌, length, sym, ◌∙◌, rules, arith}
+use Rattle.std.proofs.Common.{◌≡◌, ◌≤◌, length, refl, sym, ◌∙◌, rules, arith}
 use Rattle.taps_endpoint.proofs.MachineRuns.{answer_steps}
 use Rattle.taps_endpoint.proofs.machine.read.Goals as goal
 
 pub loop-index-preserved : goal.loop-index-preserved
 loop-index-preserved g c =
     let steps = answer_steps g.M.Machine.step g.M.Machine.at_end c.loop-index.state c.args.text.now c.loop-index.index in
-    (c.in-Some.ensures.small, c.loop-index.invariant.1 ∙ steps.more c.in-Some.next c.loop-index-test.true (sym c.in-Some.ensures.steps))
+    (c.if-not-advance.ensures.small refl, c.loop-index.invariant.1 ∙ steps.more c.advance.new.self c.loop-index-test.true c.if-not-advance.ensures.steps)
 
-pub returns-in-None : goal.returns-in-None
-returns-in-None g c =
+pub returns-then-not-advance : goal.returns-then-not-advance
+returns-then-not-advance g c =
     let steps = answer_steps g.M.Machine.step g.M.Machine.at_end c.loop-index.state c.args.text.now c.loop-index.index in
-    sym (c.loop-index.invariant.1 ∙ steps.stops c.loop-index-test.true (sym c.in-None.ensures.steps))
+    sym (c.loop-index.invariant.1 ∙ steps.stops c.loop-index-test.true c.if-not-advance.ensures.steps)
 
 pub returns : goal.returns
 returns g c =

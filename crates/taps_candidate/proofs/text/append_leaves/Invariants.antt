@@ -1,6 +1,6 @@
 use Rattle.std.proofs.Common.{◌≡◌, ◌++◌, drop, string_bytes}
 use Rattle.taps_candidate.specs.PlanText.{interface_of, leaf_lines}
-use Rattle.taps_candidate.proofs.text.put_leaves.Given as goal
+use Rattle.taps_candidate.proofs.text.append_leaves.Given as goal
 
 abbrev pub invariant-loop-number : goal.invariant-loop-number
 invariant-loop-number l =
