@@ -14,7 +14,8 @@ use Rattle.taps_socket.specs.declared.race_answer.RaceAnswer.{RaceAnswer}
 use Rattle.taps_socket.specs.declared.race_answer.RaceAnswer.TheVariants as answer
 use Rattle.taps_socket.specs.RaceTrace.{IsRaceTrace, tries, has_fault}
 use Rattle.taps_socket.specs.RaceSockets.{has, started, completed, closed, open_sockets, pending_sockets}
-use Rattle.taps_socket.specs.LiveSockets.{live_sockets}
+use Rattle.taps_socket.specs.LiveSockets.{live_sockets, named}
+use Rattle.taps_socket.specs.Sides.{target_of, may_send, may_receive}
 use Rattle.taps_socket.proofs.NamedSockets.{closed_named}
 use Rattle.taps_socket.specs.Winner.{ready, place_of}
 use Rattle.taps_socket.specs.Once.{IsOnce}
@@ -22,12 +23,13 @@ use Rattle.taps_socket.specs.Standing.{standing}
 use Rattle.taps_socket.specs.Rules.{Rules}
 use Rattle.taps_socket.specs.Over.{over, failure}
 use Rattle.taps_socket.specs.LawfulRace.{Each, WinnerAlone, IsOver, IsLawfulRace}
-use Rattle.taps_socket.specs.Net.{Net, with_item, with_spare}
+use Rattle.taps_socket.specs.Net.{Net, with_item, with_spare, IsUnused}
+use Rattle.taps_socket.proofs.Traffic.{by_item, by_spare, preserved_on}
 use Rattle.taps_racer.specs.declared.command.Command.TheVariants.{Finish}
 use Rattle.taps_racer.specs.Kept.{Kept, standing_of}
 use Rattle.taps_racer.specs.Commands.{command_of}
 use Rattle.taps_racer.specs.Stands.{IsToldRightly, IsRun}
-use Rattle.taps_racer.specs.CarriedOut.{HasAnswer, NamesWinner, IsAlike, IsCarriedOut, HasCarriedOut}
+use Rattle.taps_racer.specs.CarriedOut.{HasAnswer, NamesWinner, IsCarriedOut, HasCarriedOut}
 use Rattle.taps_racer.specs.UnderWay.{IsUnderWay, UnderWay}
 use Rattle.taps_socket.proofs.Lists.{either, or_left, or_right, false_by, kept}
 use Rattle.taps_racer.proofs.Choices.{says_of}
@@ -36,23 +38,26 @@ use Rattle.taps_racer.proofs.StandsOn.{was_pending, unnamed}
 use Rattle.taps_racer.proofs.Races.{before, goes, pending_open, open_parts, winner_open}
 use Rattle.taps_racer.proofs.Few.{few_items, few_attempts}
 use Rattle.taps_racer.proofs.Onces.{closes_once}
-use Rattle.taps_racer.proofs.Stretches.{completed-append, broke-append, closed-append, neither_in, opens_live, live_opens, others_live, same_bool}
+use Rattle.taps_racer.proofs.Stretches.{completed-append, closed-append, neither_in, opens_live, live_opens, same_bool}
+use Rattle.taps_racer.proofs.Winners.{named_started, aimed, both_ways}
 use Rattle.taps_racer.proofs.UnderWay.{next_is, pending_there}
 
-pub begins : (k : Kept) (rules : Rules) (first : ℕ) (targets : List Target) (before mid now : Net) (at : ℕ) → ((first : ℕ) → IsRun k first (item.Began at ∷ [])) → k.rules ≡ rules → length rules.gaps ≡ length targets → pending_sockets before.trace ≡ [] → mid ≡ with_spare before mid.spare → before.spare ≤ mid.spare → 4 * length targets + 1 ≤ mid.spare → now ≡ with_item mid (item.Began at) at → UnderWay k rules first targets before now
-begins k rules first targets before mid now at run rules_are leaves idle mid_is kept room now_is =
-    let lower : now.spare ≡ mid.spare - 1 = ap (λ n. n.spare) now_is in
-    let same : now.faults ≡ before.faults = ap (λ n. n.faults) now_is ∙ ap (λ n. n.faults) mid_is in
+pub begins : (k : Kept) (rules : Rules) (first : ℕ) (targets : List Target) (before now : Net) (at : ℕ) → ((first : ℕ) → IsRun k first (item.Began at ∷ [])) → k.rules ≡ rules → length rules.gaps ≡ length targets → pending_sockets before.trace ≡ [] → 4 * length targets + 1 ≤ before.spare → now ≡ with_item before (item.Began at) at → UnderWay k rules first targets before now
+begins k rules first targets before now at run rules_are leaves idle room now_is =
+    let lower : now.spare ≡ before.spare - 1 = ap (λ n. n.spare) now_is in
+    let same : now.faults ≡ before.faults = ap (λ n. n.faults) now_is in
     let last = (run first).stands.last in (
       item.Began at ∷ [],
       record {
-        items = ap (λ n. n.trace) now_is ∙ ap (λ n. item.Began at ∷ n.trace) mid_is;
+        items = ap (λ n. n.trace) now_is;
         run = run first;
         targets_in_order = (tt, tt);
         same_rules = rules_are;
         leaves = leaves;
         told_last = ap (λ n. n.told) now_is ∙ (let e : at ≡ k.last = omega arith in e);
         new_sockets = λ s h. (let z : false ≡ true = h in cc);
+        unused = λ s h. (let z : false ≡ true = h in cc);
+        preserved = by_item before now (item.Began at) at now_is;
         idle = idle;
         room = omega arith;
         lowered = omega arith;
@@ -140,11 +145,19 @@ names_winner k rules first targets before now t (answer.Ready leaf s at) u e =
     let within : leaf < length (tries t) = slice_get_within (tries t) leaf (Some s) f.attempt in
     let few = few_attempts k.rules t (goes k first t u.run) in
     let leaves : length k.rules.gaps ≡ length targets = ap (λ r. length r.gaps) u.same_rules ∙ u.leaves in
+    let race = u.run.race.race_trace in
+    let new = u.new_sockets s (open_parts t s own).1 in
+    let live = opens_live t before.trace s race new own in
+    let done : has (completed (t ++ before.trace)) s ≡ true = rw (completed-append, list_any-append) (or_left _ _ f.done) in
+    let ways = both_ways t before.trace s race new live done in
     record {
       listed = omega arith;
       attempt = f.attempt;
-      live = rw u.items (opens_live t before.trace s u.run.race.race_trace (u.new_sockets s (open_parts t s own).1) own);
-      done = rw (u.items, completed-append, list_any-append) (or_left _ _ f.done);
+      live = rw u.items live;
+      done = rw u.items done;
+      target = ap (λ r. target_of r s) u.items ∙ aimed targets t before.trace leaf s race u.run.stands.rightly u.targets_in_order f.attempt;
+      sends = ap (λ r. may_send r s) u.items ∙ ways.sends;
+      receives = ap (λ r. may_receive r s) u.items ∙ ways.receives;
     }
 names_winner k rules first targets before now t a u e = tt
 
@@ -183,15 +196,9 @@ closed_started t s told h = by_started (has (started t) s) refl
     by_started true e = refl
     by_started false e = (let u = (unnamed t s told e).closed in cc)
 
--- a socket of the trace before is as it was
-alike : (t b : List Item) (s : ℕ) → IsRaceTrace t → Each IsToldRightly t → has (started t) s ≡ false → IsAlike b (t ++ b) s
-alike t b s race told other =
-    let u = unnamed t s told other in
-    record {
-      live = others_live t b s race other u.closed;
-      done = rw (completed-append, list_any-append, u.completed) refl;
-      broken = rw (broke-append, list_any-append, u.broke) refl;
-    }
+-- the race names only sockets that it started
+started_by : (t b : List Item) (s : ℕ) → IsRaceTrace t → Each IsToldRightly t → ((s : ℕ) → has (started t) s ≡ true → has (named b) s ≡ false) → has (named t) s ≡ true → has (named b) s ≡ false
+started_by t b s race told new h = new s (named_started t s race told h)
 
 ends_so : (k : Kept) (rules : Rules) (first : ℕ) (targets : List Target) (before now : Net) (t : List Item) (a : RaceAnswer) → command_of k ≡ Finish a → IsUnderWay k rules first targets before now t → IsCarriedOut rules first targets before now t a
 ends_so k rules first targets before now t a asked u =
@@ -208,9 +215,12 @@ ends_so k rules first targets before now t a asked u =
       told_last = u.told_last ∙ u.run.stands.last;
       winner = names_winner k rules first targets before now t a u over.over;
       own = λ s h. subst (λ r. has (live_sockets r) s ≡ has (open_sockets t) s) (sym u.items) (same_bool _ _ (live_opens t before.trace s h) (opens_live t before.trace s race.race_trace (u.new_sockets s h)));
-      others = λ s h. subst (λ r. IsAlike before.trace r s) (sym u.items) (alike t before.trace s race.race_trace told (false_by _ (λ own. (let z = u.new_sockets s own in cc))));
+      new_sockets = λ s h. started_by t before.trace s race.race_trace told u.new_sockets h;
+      unused = λ s h. subst (λ f. IsUnused (f s)) (sym (ap (λ n. n.traffic) u.preserved)) (u.unused s h);
+      preserved = u.preserved;
       idle = empty _ (λ s h. none_pending t a s (λ leaf x at e. (winner_first k first t leaf x at u.run (over.over ∙ ap Some e)).1.done) over.winner_alone (pending_there t before.trace s u.idle (rw u.items at h)));
       closed_once = λ h. rw (u.items, closed-append) (once_both (closed t) (closed before.trace) (closes_once t told) h (λ s own. false_by _ (λ e. (let z = u.new_sockets s (closed_started t s told own) in let y = closed_named before.trace s e in cc))));
+      counted = u.counted;
       fault = λ e. u.fault (was_fault k first t u.run (over.over ∙ ap Some e));
     }
 
@@ -220,3 +230,30 @@ has_answer k a e = (says_of k.rules (standing_of k) (Finish a) e).0
 pub carried_out : (k k' : Kept) (rules : Rules) (first : ℕ) (targets : List Target) (before now : Net) (a : RaceAnswer) → command_of k ≡ Finish a → k' ≡ k → UnderWay k rules first targets before now → HasCarriedOut rules first targets before now k'
 carried_out k k' rules first targets before now a asked same under =
     subst (HasCarriedOut rules first targets before now) (sym same) (under.0, a, has_answer k a asked, ends_so k rules first targets before now under.0 a asked under.1)
+
+-- and so it is from before more room was made
+reserved_so : (rules : Rules) (first : ℕ) (targets : List Target) (before mid now : Net) (t : List Item) (a : RaceAnswer) → mid ≡ with_spare before mid.spare → before.spare ≤ mid.spare → IsCarriedOut rules first targets mid now t a → IsCarriedOut rules first targets before now t a
+reserved_so rules first targets before mid now t a mid_is kept c =
+    let same : mid.trace ≡ before.trace = ap (λ n. n.trace) mid_is in
+    let faults : mid.faults ≡ before.faults = ap (λ n. n.faults) mid_is in
+    let room = c.room in
+    let counted = c.counted in
+    record {
+      items = c.items ∙ ap (λ r. t ++ r) same;
+      lawful = c.lawful;
+      few = c.few;
+      room = omega arith;
+      told_last = c.told_last;
+      winner = c.winner;
+      own = c.own;
+      new_sockets = λ s h. subst (λ r. has (named r) s ≡ false) same (c.new_sockets s h);
+      unused = c.unused;
+      preserved = preserved_on before mid now (by_spare before mid mid.spare mid_is) c.preserved;
+      idle = c.idle;
+      closed_once = λ h. c.closed_once (subst (λ r. IsOnce (closed r)) (sym same) h);
+      counted = omega arith;
+      fault = λ e. (let rose = c.fault e in omega arith);
+    }
+
+pub reserved : (k : Kept) (rules : Rules) (first : ℕ) (targets : List Target) (before mid now : Net) → mid ≡ with_spare before mid.spare → before.spare ≤ mid.spare → HasCarriedOut rules first targets mid now k → HasCarriedOut rules first targets before now k
+reserved k rules first targets before mid now mid_is kept (t, a, answer, c) = (t, a, answer, reserved_so rules first targets before mid now t a mid_is kept c)

@@ -9,7 +9,7 @@ pub mod RunsOn
 pub mod Few
 pub mod Onces
 pub mod Stretches
+pub mod Winners
 pub mod UnderWay
 pub mod CarriedOut
 pub mod Telling
-pub mod SomeRace

@@ -1,5 +1,5 @@
 -- What a trace tells of its sockets that goes on with another one.
-use Rattle.std.proofs.Common.{◌≡◌, ℕ, Bool, true, false, not, List, [], ◌∷◌, ◌++◌, refl, ap, sym, ◌∙◌, inl, inr, append-nil, append_assoc}
+use Rattle.std.proofs.Common.{◌≡◌, ℕ, Bool, true, false, not, List, [], ◌∷◌, ◌++◌, refl, ap, sym, ◌∙◌, append-nil, append_assoc}
 use Rattle.std.proofs.lemmas.Bool.{not-true}
 use Rattle.std.proofs.lemmas.List.Folds.{list_any-append}
 use Rattle.taps_socket.specs.declared.item.How.TheVariants as how
@@ -9,7 +9,7 @@ use Rattle.taps_socket.specs.RaceTrace.{IsRaceTrace}
 use Rattle.taps_socket.specs.RaceSockets.{has, started, completed, broke, closed, open_sockets}
 use Rattle.taps_socket.specs.LiveSockets.{given, live_sockets, named, named_by}
 use Rattle.taps_socket.proofs.NamedSockets.{closed_named}
-use Rattle.taps_socket.proofs.Lists.{either, or_left, or_right, kept, keeps, false_by}
+use Rattle.taps_socket.proofs.Lists.{or_left, or_right, kept, keeps, false_by}
 use Rattle.taps_racer.proofs.Races.{open_parts, of_open}
 
 -- each list is that of the one and of the other
@@ -89,15 +89,3 @@ pub same_bool : (p q : Bool) → (p ≡ true → q ≡ true) → (q ≡ true →
 same_bool true q f g = sym (f refl)
 same_bool false true f g = g refl
 same_bool false false f g = refl
-
--- and a socket that a race did not start is live as before
-pub others_live : (t b : List Item) (s : ℕ) → IsRaceTrace t → has (started t) s ≡ false → has (closed t) s ≡ false → has (live_sockets (t ++ b)) s ≡ has (live_sockets b) s
-others_live t b s race other open_there =
-    let none : has (given t) s ≡ false = rw (given_in_race t race) other in
-    same_bool _ _
-    (λ h. (let k = kept (λ s. not (has (closed (t ++ b)) s)) (given (t ++ b)) s h in
-    let c = not_in (closed t) (closed b) s (rw closed-append at (not-true _ k.0)) in
-    let g : has (given b) s ≡ true = elim (either (has (given b) s) (has (given t) s) (rw (given-append, list_any-append) at k.1)) [ inl old ↦ old | inr own ↦ cc ] in
-    keeps (λ s. not (has (closed b) s)) (given b) s (rw c.1 refl) g))
-    (λ h. (let k = kept (λ s. not (has (closed b) s)) (given b) s h in
-    keeps (λ s. not (has (closed (t ++ b)) s)) (given (t ++ b)) s (rw (closed-append, neither_in (closed t) (closed b) s open_there (not-true _ k.0)) refl) (rw (given-append, list_any-append) (or_left _ _ k.1))))

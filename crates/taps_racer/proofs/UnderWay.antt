@@ -21,7 +21,9 @@ use Rattle.taps_socket.proofs.NamedSockets.{started_named}
 use Rattle.taps_socket.specs.Standing.{standing}
 use Rattle.taps_socket.specs.Rules.{Rules}
 use Rattle.taps_socket.specs.LawfulRace.{HasTarget}
-use Rattle.taps_socket.specs.Net.{Net, with_item, with_faults, IsNextMoment, started_item, started_at, GivesNewSocket, MayEnd}
+use Rattle.taps_socket.specs.Calls.{started_item, started_at}
+use Rattle.taps_socket.specs.Net.{Net, with_item, with_faults, IsNextMoment, GivesNewSocket, MayEnd, IsUnused, PreservesTraffic}
+use Rattle.taps_socket.proofs.Traffic.{by_item, by_faulted, preserved_on}
 use Rattle.taps_racer.specs.declared.command.Command.{Command}
 use Rattle.taps_racer.specs.declared.command.Command.TheVariants.{Start, Wait, Close, Finish}
 use Rattle.taps_racer.specs.declared.event.Told.{Told}
@@ -59,9 +61,10 @@ record IsLater (k : Kept) (before now later : Net) (t : List Item) (i : Item) (e
   pub lower : later.spare + 1 ≡ now.spare
   pub count : now.faults ≤ later.faults
   pub risen : is_fault i ≡ true → Rose now.faults later.faults
+  pub preserved : PreservesTraffic now later
 
-goes_on : (k : Kept) (rules : Rules) (first : ℕ) (targets : List Target) (before now later : Net) (t : List Item) (target : Target) (event : Told) → IsUnderWay k rules first targets before now t → is_used k event ≡ true → HasTarget targets (item_of first (λ _. target) event) (standing t) → ((s : ℕ) → has (started (item_of first (λ _. target) event ∷ t)) s ≡ true → has (named before.trace) s ≡ false) → IsLater k before now later t (item_of first (λ _. target) event) event → IsUnderWay (after k event) rules first targets before later (item_of first (λ _. target) event ∷ t)
-goes_on k rules first targets before now later t target event u used aims new l =
+goes_on : (k : Kept) (rules : Rules) (first : ℕ) (targets : List Target) (before now later : Net) (t : List Item) (target : Target) (event : Told) → IsUnderWay k rules first targets before now t → is_used k event ≡ true → HasTarget targets (item_of first (λ _. target) event) (standing t) → ((s : ℕ) → has (started (item_of first (λ _. target) event ∷ t)) s ≡ true → has (named before.trace) s ≡ false) → ((s : ℕ) → has (started (item_of first (λ _. target) event ∷ t)) s ≡ true → IsUnused (before.traffic s)) → IsLater k before now later t (item_of first (λ _. target) event) event → IsUnderWay (after k event) rules first targets before later (item_of first (λ _. target) event ∷ t)
+goes_on k rules first targets before now later t target event u used aims new unused l =
     let i = item_of first (λ _. target) event in
     record {
       items = l.trace ∙ ap (λ r. i ∷ r) u.items;
@@ -71,6 +74,8 @@ goes_on k rules first targets before now later t target event u used aims new l 
       leaves = u.leaves;
       told_last = l.last;
       new_sockets = new;
+      unused = unused;
+      preserved = preserved_on before now later u.preserved l.preserved;
       idle = u.idle;
       room = (let r = u.room in let s = l.lower in omega arith);
       lowered = (let r = u.lowered in let s = l.lower in omega arith);
@@ -94,7 +99,7 @@ starts k k' rules first targets before now later leaf target (start.Started s at
     let t = under.0 in
     let u = under.1 in
     let event = told.Started leaf s at in
-    let fresh : has (started t) s ≡ false = false_by _ (λ e. (let less : s < s = new s (rw (u.items, named-append, list_any-append) (or_left _ _ (started_named t s e))) in absurd (omega arith))) in
+    let fresh : has (started t) s ≡ false = false_by _ (λ e. (let less : s < s = new.number s (rw (u.items, named-append, list_any-append) (or_left _ _ (started_named t s e))) in absurd (omega arith))) in
     let used : is_used k event ≡ true = uses k rules first targets before now t (Start leaf) event u asked (both_true (both_true (eq-eqb leaf leaf refl) (not_from_false _ fresh)) (is_next k rules first targets before now t at u next)) in
     let here : leaf ≡ (standing t).attempts = (next_is k rules first targets before now t (Start leaf) u asked).0 in
     let after_is : k' ≡ after k event = kept ∙ rw used refl in
@@ -106,9 +111,12 @@ starts k k' rules first targets before now later leaf target (start.Started s at
       lower = omega arith;
       count = omega arith;
       risen = λ h. (let z : false ≡ true = h in cc);
+      preserved = by_item now later (item.Started (first + leaf) target s at) at is;
     } in
-    let unlike : (x : ℕ) → has (started t ++ s ∷ []) x ≡ true → has (named before.trace) x ≡ false = λ x h. started_first s x (started t) (has (named before.trace) x ≡ false) (u.new_sockets x) (λ same. false_by _ (λ e. (let less : x < s = new x (rw (u.items, named-append, list_any-append) (or_right (has (named t) x) _ e)) in absurd (omega arith)))) h in
-    subst (λ k. UnderWay k rules first targets before later) (sym after_is) (item.Started (first + leaf) target s at ∷ t, goes_on k rules first targets before now later t target event u used (rw (← here) aims) unlike l)
+    let empty : IsUnused (before.traffic s) = subst (λ f. IsUnused (f s)) (ap (λ n. n.traffic) u.preserved) new.unused in
+    let unused : (x : ℕ) → has (started t ++ s ∷ []) x ≡ true → IsUnused (before.traffic x) = λ x h. started_first s x (started t) (IsUnused (before.traffic x)) (u.unused x) (λ same. subst (λ y. IsUnused (before.traffic y)) same empty) h in
+    let unlike : (x : ℕ) → has (started t ++ s ∷ []) x ≡ true → has (named before.trace) x ≡ false = λ x h. started_first s x (started t) (has (named before.trace) x ≡ false) (u.new_sockets x) (λ same. false_by _ (λ e. (let less : x < s = new.number x (rw (u.items, named-append, list_any-append) (or_right (has (named t) x) _ e)) in absurd (omega arith)))) h in
+    subst (λ k. UnderWay k rules first targets before later) (sym after_is) (item.Started (first + leaf) target s at ∷ t, goes_on k rules first targets before now later t target event u used (rw (← here) aims) unlike unused l)
 starts k k' rules first targets before now later leaf target (start.Refused cause at) asked aims is next new room kept under =
     let t = under.0 in
     let u = under.1 in
@@ -124,8 +132,9 @@ starts k k' rules first targets before now later leaf target (start.Refused caus
       lower = omega arith;
       count = omega arith;
       risen = λ h. (let z : false ≡ true = h in cc);
+      preserved = by_item now later (item.Refused (first + leaf) target cause at) at is;
     } in
-    subst (λ k. UnderWay k rules first targets before later) (sym after_is) (item.Refused (first + leaf) target cause at ∷ t, goes_on k rules first targets before now later t target event u used (rw (← here) aims) u.new_sockets l)
+    subst (λ k. UnderWay k rules first targets before later) (sym after_is) (item.Refused (first + leaf) target cause at ∷ t, goes_on k rules first targets before now later t target event u used (rw (← here) aims) u.new_sockets u.unused l)
 
 -- an event of a wait or a close has no target
 no_target : Target
@@ -178,8 +187,9 @@ waits k k' rules first targets before now later until at h asked is next may cou
       lower = omega arith;
       count = count;
       risen = rises now later until at h may;
+      preserved = by_faulted now later (item.Waited until at h) at later.faults is;
     } in
-    subst (λ k. UnderWay k rules first targets before later) (sym after_is) (item.Waited until at h ∷ t, goes_on k rules first targets before now later t no_target event u used tt u.new_sockets l)
+    subst (λ k. UnderWay k rules first targets before later) (sym after_is) (item.Waited until at h ∷ t, goes_on k rules first targets before now later t no_target event u used tt u.new_sockets u.unused l)
 
 -- a socket that is to be closed is live
 pub close_live : (k : Kept) (rules : Rules) (first : ℕ) (targets : List Target) (before now : Net) (s : ℕ) → command_of k ≡ Close s → UnderWay k rules first targets before now → has (live_sockets now.trace) s ≡ true
@@ -204,8 +214,9 @@ closes k k' rules first targets before now later s asked is room kept under =
       lower = omega arith;
       count = omega arith;
       risen = λ h. (let z : false ≡ true = h in cc);
+      preserved = by_item now later (item.Closed s) now.told is;
     } in
-    subst (λ k. UnderWay k rules first targets before later) (sym after_is) (item.Closed s ∷ t, goes_on k rules first targets before now later t no_target event u used tt u.new_sockets l)
+    subst (λ k. UnderWay k rules first targets before later) (sym after_is) (item.Closed s ∷ t, goes_on k rules first targets before now later t no_target event u used tt u.new_sockets u.unused l)
 
 -- there is room for the item of a command that is not the last
 no_finish : (k : Kept) (first : ℕ) (t : List Item) (c : Command) → command k.rules (standing t) ≡ c → (IsFinish c → ⊥) → (a : _) → command k.rules (standing t) ≡ Finish a → ⊥

@@ -8,4 +8,3 @@ pub mod Telling
 pub mod Fields
 pub mod CarriedOut
 pub mod UnderWay
-pub mod SomeRace

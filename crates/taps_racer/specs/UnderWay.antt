@@ -10,13 +10,13 @@ use Rattle.taps_socket.specs.RaceSockets.{has, started, pending_sockets}
 use Rattle.taps_socket.specs.LiveSockets.{named}
 use Rattle.taps_socket.specs.Rules.{Rules}
 use Rattle.taps_socket.specs.LawfulRace.{Each, HasTarget}
-use Rattle.taps_socket.specs.Net.{Net}
+use Rattle.taps_socket.specs.Net.{Net, IsUnused, PreservesTraffic}
 use Rattle.taps_racer.specs.declared.event.Told.{Told}
 use Rattle.taps_racer.specs.declared.event.Told.TheVariants as told
 use Rattle.taps_racer.specs.Kept.{Kept}
 use Rattle.taps_racer.specs.Stands.{IsRun}
 
--- what came to the sockets' trace is a race for which the racer stands, over these targets, on sockets that were not in the trace before; there is room for the rest of its items
+-- what came to the sockets' trace is a race for which the racer stands, over these targets, on sockets that were not in the trace before and had no traffic; nothing else changed; and there is room for the rest of its items
 pub record IsUnderWay (kept : Kept) (rules : Rules) (first : ℕ) (targets : List Target) (before now : Net) (race : List Item) : Type 0 where
   pub items : now.trace ≡ race ++ before.trace
   pub run : IsRun kept first race
@@ -25,6 +25,8 @@ pub record IsUnderWay (kept : Kept) (rules : Rules) (first : ℕ) (targets : Lis
   pub leaves : length rules.gaps ≡ length targets
   pub told_last : now.told ≡ kept.last
   pub new_sockets : (s : ℕ) → has (started race) s ≡ true → has (named before.trace) s ≡ false
+  pub unused : (s : ℕ) → has (started race) s ≡ true → IsUnused (before.traffic s)
+  pub preserved : PreservesTraffic before now
   pub idle : pending_sockets before.trace ≡ []
   pub room : 4 * length targets + 1 ≤ now.spare + length race
   pub lowered : before.spare ≤ now.spare + length race

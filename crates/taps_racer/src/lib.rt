@@ -11,9 +11,6 @@ mod events;
 mod phase;
 mod race;
 mod racer;
-mod script_race;
-#[cfg(test)]
-mod tests;
 
 pub use attempt::{Attempt, State};
 pub use command::Command;
@@ -22,5 +19,4 @@ pub use event::{Taken, Told};
 pub use events::tell_all;
 pub use phase::{Ended, Phase, Racing, Unstarted};
 pub use racer::Racer;
-pub use script_race::vouch_for_script;
 pub use taps_socket::RaceAnswer;

@@ -34,6 +34,8 @@ whole rules targets before after t a fresh room all c =
       live = live;
       closed_once = closed_once after.trace a lawful.race.race_trace lawful.over.winner_alone live (c.closed_once (subst (λ v. IsOnce (closed v)) (sym fresh) tt));
       room = omega arith;
+      preserved = c.preserved;
+      counted = c.counted;
       fault = c.fault;
     }
 

@@ -9,7 +9,7 @@ use Rattle.taps_socket.specs.RaceSockets.{has}
 use Rattle.taps_socket.specs.LiveSockets.{live_sockets}
 use Rattle.taps_socket.specs.Rules.{Rules}
 use Rattle.taps_socket.specs.LawfulRace.{IsLawfulRace}
-use Rattle.taps_socket.specs.Net.{Net}
+use Rattle.taps_socket.specs.Net.{Net, PreservesTraffic}
 use Rattle.taps_racer.specs.CarriedOut.{NamesWinner}
 use Rattle.taps_session.specs.Sessions.{closes_of, IsSession, IsClosedOnce}
 
@@ -25,6 +25,8 @@ pub record IsRaced (rules : Rules) (targets : List Target) (before after : Net) 
   pub live : HasLiveWinner answer after.trace
   pub closed_once : IsClosedOnce (closes_of answer ++ after.trace)
   pub room : 1 ≤ after.spare
+  pub preserved : PreservesTraffic before after
+  pub counted : before.faults ≤ after.faults
   pub fault : answer ≡ SocketFault → Rose before.faults after.faults
 
 -- so many items are a race's, and with the close of its winner they are a session

@@ -1,5 +1,5 @@
 -- What a session leaves that was held over sockets. A trace stands with its newest item first.
-use Rattle.std.specs.Prelude.{◌≡◌, ℕ, true, List, [], ◌∷◌, ◌++◌, reverse, take, drop}
+use Rattle.std.specs.Prelude.{◌≡◌, ◌≤◌, ℕ, true, List, [], ◌∷◌, ◌++◌, reverse, take, drop}
 use Rattle.taps_base.specs.Counts.{Rose}
 use Rattle.taps_stack.specs.declared.target.Target.{Target}
 use Rattle.taps_socket.specs.declared.item.Item.{Item}
@@ -11,7 +11,7 @@ use Rattle.taps_socket.specs.LiveSockets.{given}
 use Rattle.taps_socket.specs.Once.{IsOnce}
 use Rattle.taps_socket.specs.Rules.{Rules}
 use Rattle.taps_socket.specs.LawfulRace.{IsLawfulRace}
-use Rattle.taps_socket.specs.Net.{Net}
+use Rattle.taps_socket.specs.Net.{Net, PreservesTraffic}
 use Rattle.taps_racer.specs.CarriedOut.{NamesWinner}
 
 -- the items of its race, the race's answer, and the items behind the race
@@ -20,7 +20,7 @@ pub record Held : Type 0 where
   pub answer : RaceAnswer
   pub after : List Item
 
--- these items, the first of them first, of which so many are the race's
+-- these items, oldest first, of which so many are the race's
 abbrev pub parted : List Item → ℕ → RaceAnswer → Held
 parted items raced answer = record { race = reverse (take raced items); answer = answer; after = reverse (drop raced items) }
 
@@ -29,12 +29,14 @@ abbrev pub closes_of : RaceAnswer → List Item
 closes_of (Ready leaf socket at) = item.Closed socket ∷ []
 closes_of _ = []
 
--- the items between the two are a lawful race with its answer, whose winner is one of the leaves, and then the close of that winner; and the answer is a fault only where the count rose
+-- the items between the two are a lawful race with its answer, whose winner is one of the leaves, and then the close of that winner; no traffic of any socket changed, and no call was timed; and the count of faults did not fall, and rose for a fault
 pub record IsSession (rules : Rules) (targets : List Target) (before after : Net) (held : Held) : Type 0 where
   pub items : after.trace ≡ held.after ++ held.race
   pub lawful : IsLawfulRace rules 0 targets held.race held.answer
   pub winner : NamesWinner targets held.race held.race held.answer
   pub closes : held.after ≡ closes_of held.answer
+  pub preserved : PreservesTraffic before after
+  pub counted : before.faults ≤ after.faults
   pub fault : held.answer ≡ SocketFault → Rose before.faults after.faults
 
 -- every socket that was given is closed, and none is closed twice

@@ -3,12 +3,7 @@
 #![tactic(auto)]
 
 mod holding;
-mod recorder;
-mod room;
 mod session;
-#[cfg(test)]
-mod tests;
 
 pub use holding::hold;
-pub use recorder::Recorder;
 pub use session::Session;

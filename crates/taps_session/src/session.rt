@@ -36,14 +36,14 @@ impl Session {
         }
     }
 
-    /// The items of the race, the first of them first.
+    /// The items of the race, oldest first.
     pub fn race(&self) -> &[Item]
         ensures { reverse result.now ≡ self.now.race }
     {
         &self.items[..self.raced]
     }
 
-    /// The items behind the race, the first of them first.
+    /// The items behind the race, oldest first.
     pub fn after(&self) -> &[Item]
         ensures { reverse result.now ≡ self.now.after }
     {

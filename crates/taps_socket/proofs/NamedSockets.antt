@@ -1,4 +1,4 @@
--- A socket that was given, completed, broke or was closed is named in the trace.
+-- A socket that was given, completed, broke, was shut, ended, failed or was closed is named in the trace.
 use Rattle.std.specs.Prelude.{◌≡◌, ℕ, Bool, true, false, ◌||◌, ◌==◌, List, [], ◌∷◌, refl}
 use Rattle.std.proofs.lemmas.List.Folds.{list_any-append}
 use Rattle.taps_socket.specs.declared.item.How.TheVariants as how
@@ -6,6 +6,7 @@ use Rattle.taps_socket.specs.declared.item.Item.{Item}
 use Rattle.taps_socket.specs.declared.item.Item.TheVariants as item
 use Rattle.taps_socket.specs.RaceSockets.{has, started, completed, broke, closed}
 use Rattle.taps_socket.specs.LiveSockets.{given, named, named_by}
+use Rattle.taps_socket.specs.Sides.{shut, ended, failed}
 use Rattle.taps_socket.proofs.Lists.{or_right}
 
 -- one of the first, or what follows
@@ -47,3 +48,18 @@ given_named (item.Started leaf target x at ∷ earlier) s h = last_or (x == s) (
 given_named (item.Listening target x at ∷ earlier) s h = last_or (x == s) (has (given earlier) s) (has (named earlier) s) (given_named earlier s) (rw list_any-append at h)
 given_named (item.Accepted listener x at ∷ earlier) s h = or_right (listener == s) _ (last_or (x == s) (has (given earlier) s) (has (named earlier) s) (given_named earlier s) (rw list_any-append at h))
 given_named (i ∷ earlier) s h = later_named i earlier s (given_named earlier s h)
+
+pub shut_named : (trace : List Item) (s : ℕ) → has (shut trace) s ≡ true → has (named trace) s ≡ true
+shut_named [] s h = h
+shut_named (item.Shut x ∷ earlier) s h = first_or (x == s) (has (shut earlier) s) (has (named earlier) s) (shut_named earlier s) h
+shut_named (i ∷ earlier) s h = later_named i earlier s (shut_named earlier s h)
+
+pub ended_named : (trace : List Item) (s : ℕ) → has (ended trace) s ≡ true → has (named trace) s ≡ true
+ended_named [] s h = h
+ended_named (item.Ended x ∷ earlier) s h = first_or (x == s) (has (ended earlier) s) (has (named earlier) s) (ended_named earlier s) h
+ended_named (i ∷ earlier) s h = later_named i earlier s (ended_named earlier s h)
+
+pub failed_named : (trace : List Item) (s : ℕ) → has (failed trace) s ≡ true → has (named trace) s ≡ true
+failed_named [] s h = h
+failed_named (item.DataFailed x sending cause ∷ earlier) s h = first_or (x == s) (has (failed earlier) s) (has (named earlier) s) (failed_named earlier s) h
+failed_named (i ∷ earlier) s h = later_named i earlier s (failed_named earlier s h)

@@ -6,7 +6,7 @@ use Rattle.taps_socket.specs.declared.item.Item.{Item}
 use Rattle.taps_socket.specs.declared.item.Item.TheVariants as item
 use Rattle.taps_socket.specs.RaceSockets.{has, closed}
 
--- the sockets that were given, by a start, a listen or an accept, the first of them first
+-- the sockets that were given, by a start, a listen or an accept, oldest first
 abbrev pub given : List Item → List ℕ
 given [] = []
 given (item.Started leaf target socket at ∷ earlier) = given earlier ++ socket ∷ []

@@ -9,7 +9,7 @@ use Rattle.taps_socket.specs.declared.item.Item.TheVariants.{Started, Waited, Cl
 abbrev pub has : List ℕ → ℕ → Bool
 has sockets s = list_any (λ x. x == s) sockets
 
--- the sockets that were started, the first of them first
+-- the sockets that were started, oldest first
 abbrev pub started : List Item → List ℕ
 started [] = []
 started (Started leaf target socket at ∷ earlier) = started earlier ++ socket ∷ []

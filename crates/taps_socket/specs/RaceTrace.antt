@@ -34,7 +34,7 @@ abbrev pub last_moment : List Item → ℕ
 last_moment [] = 0
 last_moment (item ∷ earlier) = max (moment item) (last_moment earlier)
 
--- the attempts, the first of them first, each with its socket if it was started
+-- the attempts, oldest first, each with its socket if it was started
 abbrev pub tries : List Item → List (Option ℕ)
 tries [] = []
 tries (Started leaf target socket at ∷ earlier) = tries earlier ++ Some socket ∷ []

@@ -3,25 +3,17 @@
 
 mod answers;
 mod cause;
-mod events;
 mod item;
-mod line;
-mod line_text;
 mod race_answer;
-mod room;
-mod script;
-mod script_error;
-mod script_sockets;
+mod recorder;
 mod sockets;
-#[cfg(test)]
-mod tests;
+mod timed_call;
 
-pub use answers::{StartAnswer, WaitAnswer};
+pub use answers::{AcceptAnswer, ListenAnswer, RecvAnswer, SendAnswer, StartAnswer, WaitAnswer};
 pub use cause::Cause;
 pub use item::{How, Item};
-pub use line::{Fate, Line};
 pub use race_answer::RaceAnswer;
-pub use script_error::ScriptError;
-pub use script_sockets::ScriptSockets;
+pub use recorder::Recorder;
 pub use sockets::Sockets;
 pub use taps_stack::Target;
+pub use timed_call::{TimedCall, TimedKind};

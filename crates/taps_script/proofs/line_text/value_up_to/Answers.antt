@@ -1,0 +1,11 @@
+use Rattle.std.proofs.Common.{suc, get_or, drop, drop-cons, ap, sym, ◌∙◌, arith}
+use Rattle.taps_script.specs.ScriptReading.{value_behind}
+use Rattle.taps_script.proofs.Numbers.{passes}
+use Rattle.taps_script.proofs.line_text.value_up_to.Goals as goal
+
+pub returns-then-value-most-clause-value : goal.returns-then-value-most-clause-value
+returns-then-value-most-clause-value c =
+    let i = c.loop-byte.byte-index in
+    let digits = c.args.digits.now in
+    let front = drop-cons digits i 0 c.loop-byte-test.true in
+    passes c.loop-byte.value c.args.most (get_or digits i 0) _ (drop (suc i) digits) (sym (ap (value_behind c.loop-byte.value) front) ∙ c.loop-byte.invariant.same) (omega (arith, c.from-digit.ensures, c.if-value-most.true))

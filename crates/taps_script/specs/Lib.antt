@@ -1,0 +1,15 @@
+pub mod ScriptTexts
+pub mod ScriptReading
+pub mod Scripts
+pub mod ScriptLines
+pub mod ScriptTables
+pub mod PeerTimes
+pub mod DataAnswers
+pub mod ScriptAnswers
+pub mod ScriptSteps
+pub mod Channels
+pub mod ScriptNet
+pub mod Goings
+pub mod OneRace
+pub mod SomeRace
+pub mod ReceiveFacts

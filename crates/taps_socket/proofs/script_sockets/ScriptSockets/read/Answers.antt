@@ -1,8 +1,0 @@
-use Rattle.taps_socket.proofs.ScriptLaws.{found, only}
-use Rattle.taps_socket.proofs.script_sockets.ScriptSockets.read.Goals as goal
-
-pub returns-clause-found : goal.returns-clause-found
-returns-clause-found c = found (λ s. s.lines) c.args.text.now _ c.make.ensures.meaning
-
-pub returns-clause-only : goal.returns-clause-only
-returns-clause-only c = only (λ s. s.lines) c.args.text.now _ c.make.ensures.meaning
