@@ -32,7 +32,13 @@ one_more_framer [] d f h w l = absurd (cc h)
 one_more_framer (g ∷ fs) zero f h w l = let e : f ≡ g = cc in (subst IsFramer e l, tt)
 one_more_framer (g ∷ fs) (suc d) f h w l = let e : suc d + 1 ≡ suc (d + 1) = omega arith in subst (λ (n : ℕ). AreFramers (take n (g ∷ fs))) (sym e) (w.0, one_more_framer fs d f h w.1 l)
 
--- the layer nearest to the transport is a framer
-pub framer_first : (fs : List Layer) (f : Layer) → slice_get fs 0 ≡ Some f → AreFramers fs → IsFramer f
-framer_first [] f h w = absurd (cc h)
-framer_first (g ∷ fs) f h w = let e : g ≡ f = cc in subst IsFramer e w.0
+-- each layer is a framer
+pub framer_at : (fs : List Layer) (d : ℕ) (f : Layer) → slice_get fs d ≡ Some f → AreFramers fs → IsFramer f
+framer_at [] d f h w = absurd (cc h)
+framer_at (g ∷ fs) zero f h w = let e : g ≡ f = cc in subst IsFramer e w.0
+framer_at (g ∷ fs) (suc d) f h w = framer_at fs d f h w.1
+
+-- who has a layer at a depth has one
+pub has_layer : (fs : List Layer) (d : ℕ) (f : Layer) → slice_get fs d ≡ Some f → 0 < length fs
+has_layer [] d f h = absurd (cc h)
+has_layer (g ∷ fs) d f h = omega arith

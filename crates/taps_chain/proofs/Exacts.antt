@@ -1,14 +1,15 @@
 -- An answer of ears is the first of what is heard.
-use Rattle.std.proofs.Common.{◌≡◌, ℕ, ◌+◌, ◌<◌, ◌^◌, Option, None, List, [], ◌∷◌, ◌++◌, length, sym, subst, ◌∙◌, arith, append_assoc}
+use Rattle.std.proofs.Common.{◌≡◌, ℕ, ◌+◌, ◌<◌, ◌^◌, List, [], ◌∷◌, ◌++◌, length, ap, sym, subst, ◌∙◌, arith, append_assoc}
 use Rattle.taps_framer.specs.Layers.{Layer}
 use Rattle.taps_chain.specs.Chained.{chained, IsSpoken, spelling}
 use Rattle.taps_chain.specs.Heard.{Ending, needs, fails, IsEnding, IsHeard}
 use Rattle.taps_chain.specs.ChainLaws.{AreFramers}
 use Rattle.taps_chain.specs.Streams.{StreamState}
-use Rattle.taps_chain.specs.Nexts.{IsNext, IsNextOfGood, IsNextAfter, IsFirstOf}
+use Rattle.taps_chain.specs.Nexts.{IsNextOfGood, IsFirstOf}
 use Rattle.taps_chain.specs.declared.heard.BadAt.{BadAt}
 use Rattle.taps_chain.specs.declared.heard.Heard.{Heard}
 use Rattle.taps_chain.specs.declared.heard.Heard.TheVariants as heard
+use Rattle.taps_chain.proofs.Cuts.{needs_few}
 use Rattle.taps_chain.proofs.Delimits.{chained_apart}
 use Rattle.taps_chain.proofs.Once.{not_ending, same_ending}
 
@@ -35,13 +36,16 @@ module _ (fs : List Layer) (n : 0 < length fs) (w : AreFramers fs) (k : ℕ) (b 
   first_bad c i [] e r h = same_ending fs k w b x e (fails c.layer c.place) (at_once fs k x e r h) i
   first_bad c i (a ∷ ms) e r h = ends_only (fails c.layer c.place) i a ms e r h
 
-first_good : (fs : List Layer) → 0 < length fs → AreFramers fs → (s : StreamState) → s.index < 2 ^ 64 → (answer : Heard) (t : StreamState) → IsNextOfGood fs s answer t →
+pub first_good : (fs : List Layer) → 0 < length fs → AreFramers fs → (s : StreamState) → s.index < 2 ^ 64 → (answer : Heard) (t : StreamState) → IsNextOfGood fs s answer t →
     (ms : List (List ℕ)) (e : Ending) (r : List ℕ) → IsHeard fs s.index s.unread ms e r → IsFirstOf ms e answer
 first_good fs n w s b (heard.Message m) t h ms e r g = first_message fs n w s.index b s.unread m h.0 h.1.0 h.1.1 ms e r g
 first_good fs n w s b heard.Need t h ms e r g = first_need fs n w s.index b s.unread h.0 ms e r g
 first_good fs n w s b (heard.Bad c) t h ms e r g = first_bad fs n w s.index b s.unread c h.0 ms e r g
 first_good fs n w s b heard.NoMemory t h ms e r g = tt
 
-pub first_of_heard : (fs : List Layer) → 0 < length fs → AreFramers fs → (s : StreamState) → s.index < 2 ^ 64 → (answer : Heard) (t : StreamState) → IsNext fs s answer t → s.bad ≡ None →
-    (ms : List (List ℕ)) (e : Ending) (r : List ℕ) → IsHeard fs s.index s.unread ms e r → IsFirstOf ms e answer
-first_of_heard fs n w s b answer t h o ms e r g = first_good fs n w s b answer t (subst (λ (v : Option BadAt). IsNextAfter v fs s answer t) o h) ms e r g
+-- where more bytes are needed, fewer are unread than the longest frame has
+pub few_unread : (fs : List Layer) → AreFramers fs → (s : StreamState) → s.index < 2 ^ 64 → (answer : Heard) (t : StreamState) → IsNextOfGood fs s answer t →
+    answer ≡ heard.Need → length t.unread < 4194304
+few_unread fs w s b answer t h e =
+    let n : IsNextOfGood fs s heard.Need t = subst (λ (v : Heard). IsNextOfGood fs s v t) e h in
+    omega (arith, needs_few fs w s.index s.unread b n.0, ap (λ (v : StreamState). length v.unread) n.1)

@@ -3,7 +3,7 @@ use Rattle.std.proofs.Common.{◌≡◌, ℕ, zero, suc, ◌+◌, ◌<◌, ◌�
 use Rattle.std.proofs.lemmas.Grind.{common_steps}
 use Rattle.taps_framer.specs.Layers.{Layer, IsLawful, IsWholeFrame, holds_whole_frame, is_viable, lives, first_frame}
 use Rattle.taps_framer.specs.Sights.{IsBadPlace}
-use Rattle.taps_framer.proofs.Laws.{held, Held}
+use Rattle.taps_framer.proofs.Laws.{held, Held, first_within, first_alone}
 use Rattle.taps_framer.proofs.Sights.{lives_none, lives_viable}
 use Rattle.taps_chain.specs.Chained.{chained, IsSpoken, spelling}
 use Rattle.taps_chain.specs.Faults.{broken, unfinished, left_over, IsBadIn}
@@ -67,7 +67,7 @@ whole_some (f ∷ fs) k x w b = elim (decided (holds_whole_frame f k x)) [
   | inl h ↦ elim (ordered (length (first_frame f k x)) (length x)) [
     | inl lt ↦ inr (0, (length (first_frame f k x), left_over h lt))
     | inr le ↦ (
-        let i : IsWholeFrame f k x = whole_used f k x (length (first_frame f k x)) h refl le in
+        let i : IsWholeFrame f k x = whole_used f k x (length (first_frame f k x)) (first_within f k x _ h refl) (first_alone f k (w.0.at k b) x _ h refl).0 le in
         elim (whole_some fs k (f.front k x) w.1 b) [
           | inl m ↦ (
               let t : f.speaks (chained fs k m.0) ≡ true = subst (λ (v : List ℕ). f.speaks v ≡ true) m.1.1 i.spoken in

@@ -5,13 +5,12 @@ pub mod Delimits
 pub mod Once
 pub mod Exists
 pub mod Cuts
+pub mod Looking
+pub mod Counting
 pub mod Opening
 pub mod Undone
 pub mod Lawful
 pub mod Firsts
 pub mod Exacts
-pub mod Draining
-pub mod Pieces
 pub mod Joined
-pub mod Coming
-pub mod ShortPairs
+pub mod UnderWay

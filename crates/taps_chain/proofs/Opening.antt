@@ -1,27 +1,33 @@
 -- Layers that are taken off, one after the other.
-use Rattle.std.proofs.Common.{◌≡◌, ℕ, suc, ◌+◌, ◌<◌, ◌≤◌, true, List, [], ◌∷◌, ◌++◌, length, drop, Some, slice_get, refl, ap, sym, subst, ◌∙◌, arith, length-append}
+use Rattle.std.proofs.Common.{◌≡◌, ℕ, suc, ◌+◌, ◌<◌, ◌≤◌, true, false, List, [], ◌∷◌, length, take, drop, Some, slice_get, refl, ap, sym, subst, ◌∙◌, arith}
+use Rattle.std.proofs.Math.Seq.{take-length}
 use Rattle.std.proofs.lemmas.List.{drop_all}
-use Rattle.taps_framer.specs.Layers.{Layer, IsWholeFrame, holds_whole_frame, first_frame}
-use Rattle.taps_framer.proofs.Laws.{held, Held}
-use Rattle.taps_framer.proofs.Prefixes.{append-nil}
+use Rattle.taps_framer.specs.Layers.{Layer, IsLawful, IsWholeFrame, is_viable, lives, first_frame}
+use Rattle.taps_framer.proofs.Scans.{run_whole, run_whole_length}
+use Rattle.taps_framer.proofs.Sights.{bad_here}
 use Rattle.taps_chain.specs.Chained.{chained, IsSpoken}
-use Rattle.taps_chain.specs.Faults.{IsInexact, left_over, IsBadIn}
+use Rattle.taps_chain.specs.Faults.{IsInexact, broken, left_over, IsBadIn}
 use Rattle.taps_chain.proofs.Depths.{drop-layer}
 
-no_length : (x : List ℕ) → length x ≤ 0 → x ≡ []
-no_length [] h = refl
-no_length (a ∷ x) h = absurd (omega arith)
+-- what a layer's look at all of the bytes says
+module _ (f : Layer) (k : ℕ) (x : List ℕ) where
+  -- a frame that uses all bytes is the one frame that they are
+  pub whole_used : (used : ℕ) → used ≤ length x → IsWholeFrame f k (take used x) → length x ≤ used → IsWholeFrame f k x
+  whole_used used n w h =
+      let P : List ℕ → Type 0 = λ v. IsWholeFrame f k v in
+      let e : used ≡ length x = omega arith in
+      subst P (ap (λ (v : ℕ). take v x) e ∙ take-length x) w
 
--- a frame that uses all bytes is the one frame that they are
-pub whole_used : (f : Layer) (k : ℕ) (x : List ℕ) (used : ℕ) → holds_whole_frame f k x ≡ true → used ≡ length (first_frame f k x) → length x ≤ used → IsWholeFrame f k x
-whole_used f k x used h u n =
-    let w : Held f k x = held f k x h in
-    let e : drop (length (first_frame f k x)) x ≡ [] = no_length (drop (length (first_frame f k x)) x) (omega (arith, ap length w.split ∙ length-append (first_frame f k x) (drop (length (first_frame f k x)) x))) in
-    record { spoken = w.spoken; exact = sym (w.split ∙ ap (λ (v : List ℕ). first_frame f k x ++ v) e ∙ append-nil (first_frame f k x)) }
+  -- one that does not is none
+  pub over_used : IsLawful f k → (used : ℕ) → used ≤ length x → IsWholeFrame f k (take used x) → used < length x → IsInexact f k x used
+  over_used l used n w h =
+      let r = run_whole f k l [] x used w in
+      let q = run_whole_length f k l [] x used n w in
+      let e : used ≡ length (first_frame f k x) = omega (arith, q) in
+      subst (λ (v : ℕ). IsInexact f k x v) (sym e) (left_over r.0 (omega (arith, e)))
 
--- one that does not is none
-pub over_used : (f : Layer) (k : ℕ) (x : List ℕ) (used : ℕ) → holds_whole_frame f k x ≡ true → used ≡ length (first_frame f k x) → used < length x → IsInexact f k x used
-over_used f k x used h e n = subst (λ (v : ℕ). IsInexact f k x v) (sym e) (left_over h (omega arith))
+  pub bad_in : IsLawful f k → (p : ℕ) → p < length x → is_viable f k (take p x) ≡ true → lives f k (take (p + 1) x) ≡ false → IsInexact f k x p
+  bad_in l p n v d = let r = bad_here f k l x p n v d in broken p r.0 r.1
 
 -- the layers from depth a on and below depth d are off, and these bytes are left
 pub record Reached (fs : List Layer) (k : ℕ) (x : List ℕ) (a d : ℕ) (current : List ℕ) : Type 0 where

@@ -6,9 +6,10 @@ use Rattle.taps_chain.specs.Heard.{IsEnding, needs, fails}
 use Rattle.taps_chain.specs.declared.next.Found.{Found}
 use Rattle.taps_chain.specs.declared.next.Found.TheVariants as found
 
--- the first message and the number of its bytes, or how the bytes end the hearing
-abbrev pub IsFound : List Layer → ℕ → List ℕ → Found → Type 0
-IsFound fs k x (found.Message m used) = (used ≤ length x) × IsSpoken fs k m × (x ≡ chained fs k m ++ drop used x)
-IsFound fs k x found.Need = IsEnding fs k x needs
-IsFound fs k x (found.Bad l p) = IsEnding fs k x (fails l p)
-IsFound fs k x found.NoMemory = Unit {0}
+-- the first message, whose bytes are those that layer 0 scanned, or how the bytes end the hearing; where more
+-- are needed, all were scanned
+abbrev pub IsFound : List Layer → ℕ → List ℕ → ℕ → Found → Type 0
+IsFound fs k x scanned (found.Message m) = (scanned ≤ length x) × IsSpoken fs k m × (x ≡ chained fs k m ++ drop scanned x)
+IsFound fs k x scanned found.Need = (scanned ≡ length x) × IsEnding fs k x needs
+IsFound fs k x scanned (found.Bad l p) = IsEnding fs k x (fails l p)
+IsFound fs k x scanned found.NoMemory = Unit {0}

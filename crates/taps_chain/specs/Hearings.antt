@@ -1,11 +1,12 @@
 -- What is heard of pieces, one behind the other.
-use Rattle.std.specs.Prelude.{◌≡◌, ℕ, ◌+◌, List, [], ◌∷◌, ◌++◌, length, Option, Some, None}
+use Rattle.std.specs.Prelude.{◌≡◌, ℕ, ◌-◌, ◌≤◌, List, [], ◌∷◌, ◌++◌, length, take, drop}
 use Rattle.taps_framer.specs.Layers.{Layer}
-use Rattle.taps_chain.specs.Heard.{Ending, needs, fails, IsBegun, IsHeard}
-use Rattle.taps_chain.specs.Streams.{StreamState, ending_of}
-use Rattle.taps_chain.specs.declared.heard.BadAt.{BadAt}
+use Rattle.taps_framer.specs.declared.scan.Scan.{Scan}
+use Rattle.taps_chain.specs.Heard.{Ending, needs, fails, IsEnding, IsBegun, IsHeard}
+use Rattle.taps_chain.specs.Looks.{HasLooked}
 use Rattle.taps_chain.specs.declared.heard.Heard.{Heard}
 use Rattle.taps_chain.specs.declared.heard.Heard.TheVariants as heard
+use Rattle.taps_chain.specs.declared.progress.Progress.{Progress}
 
 -- the lists, one behind the other
 abbrev pub joined : List (List ℕ) → List ℕ
@@ -22,36 +23,19 @@ IsHearingOf fs x ms (heard.Bad b) n = (rest : List ℕ) ×
 IsHearingOf fs x ms heard.NoMemory n = (more : List (List ℕ)) ×
     ((e : Ending) × ((rest : List ℕ) × IsHeard fs 0 x (ms ++ more) e rest))
 
--- a Bad is that of the message at the index
-abbrev pub IsBadAt : Option BadAt → ℕ → Type 0
-IsBadAt None k = Unit {0}
-IsBadAt (Some b) k = b.message ≡ k
+-- the bytes that came and are no message's
+abbrev pub unread_of : Progress → List ℕ → List ℕ
+unread_of p x = take (p.fed - p.taken) (drop p.taken x)
 
--- all messages of the unread bytes of a stream went behind those that are there
-pub record IsDrained (fs : List Layer) (s : StreamState) (ms : List (List ℕ)) (t : StreamState) (ns : List (List ℕ)) : Type 0 where
-  pub messages : List (List ℕ)
-  pub added : ns ≡ ms ++ messages
-  pub heard : IsHeard fs s.index s.unread messages (ending_of t.bad) t.unread
-  pub index : t.index ≡ s.index + length messages
-  pub bad : IsBadAt t.bad t.index
+-- the messages begin all the bytes, those that came and those still to come, and layer 0 has looked at unread ones
+pub record IsUnderWay (fs : List Layer) (f : Layer) (scans : ℕ → Scan → List ℕ → Type 0) (x : List ℕ) (ms : List (List ℕ)) (p : Progress) : Type 0 where
+  pub came : p.fed ≤ length x
+  pub taken : p.taken ≤ p.fed
+  pub begun : IsBegun fs 0 x ms (drop p.taken x)
+  pub index : p.index ≡ length ms
+  pub looked : HasLooked f scans p.index (unread_of p x) p.look
 
--- the first messages of the unread bytes of a stream went behind those that are there
-pub record IsDrainedInPart (fs : List Layer) (s : StreamState) (ms ns : List (List ℕ)) : Type 0 where
-  pub messages : List (List ℕ)
-  pub added : ns ≡ ms ++ messages
-  pub rest : List ℕ
-  pub begun : IsBegun fs s.index s.unread messages rest
-
--- the bytes that came are the messages, the unread bytes of the stream, and so many that were left out
-pub record StandsFor (fs : List Layer) (x : List ℕ) (ms : List (List ℕ)) (s : StreamState) (skipped : ℕ) : Type 0 where
-  pub left_out : List ℕ
-  pub counted : skipped ≡ length left_out
-  pub heard : IsHeard fs 0 x ms (ending_of s.bad) (s.unread ++ left_out)
-  pub index : s.index ≡ length ms
-  pub bad : IsBadAt s.bad s.index
-  pub good : s.bad ≡ None → left_out ≡ []
-
--- the bytes that came begin with the messages
-pub record BeginsWith (fs : List Layer) (x : List ℕ) (ms : List (List ℕ)) : Type 0 where
-  pub rest : List ℕ
-  pub begun : IsBegun fs 0 x ms rest
+-- besides, more of the bytes are needed for the next message
+pub record Waits (fs : List Layer) (f : Layer) (scans : ℕ → Scan → List ℕ → Type 0) (x : List ℕ) (ms : List (List ℕ)) (p : Progress) : Type 0 where
+  pub under_way : IsUnderWay fs f scans x ms p
+  pub needs_more : IsEnding fs p.index (unread_of p x) needs

@@ -6,8 +6,9 @@ pub mod Layers
 pub mod Wraps
 pub mod Wholes
 pub mod Streams
+pub mod Looks
 pub mod Founds
+pub mod Counts
 pub mod Nexts
 pub mod Ears
 pub mod Hearings
-pub mod TestFramers

@@ -1,5 +1,5 @@
 -- What ears answer, and what they keep then.
-use Rattle.std.specs.Prelude.{◌≡◌, ℕ, ◌+◌, ◌-◌, ◌<◌, List, [], ◌∷◌, ◌++◌, length, Option, Some, None, Result, Ok, Err}
+use Rattle.std.specs.Prelude.{◌≡◌, ℕ, ◌+◌, ◌-◌, ◌<◌, ◌≤◌, List, [], ◌∷◌, ◌++◌, length, Option, Some, None, Result, Ok, Err}
 use Rattle.taps_framer.specs.Layers.{Layer}
 use Rattle.taps_chain.specs.Chained.{chained, IsSpoken}
 use Rattle.taps_chain.specs.Heard.{Ending, needs, fails, IsEnding}
@@ -10,15 +10,21 @@ use Rattle.taps_chain.specs.declared.heard.FeedError.TheVariants as feed
 use Rattle.taps_chain.specs.declared.heard.Heard.{Heard}
 use Rattle.taps_chain.specs.declared.heard.Heard.TheVariants as heard
 
+-- at least as many of the unread bytes are scanned as were, and no more than there are
+abbrev pub ScansOn : StreamState → StreamState → Type 0
+ScansOn s t = (s.scanned ≤ t.scanned) × (t.scanned ≤ length s.unread)
+
 -- of a stream that is not bad: the message that the unread bytes begin with, whose bytes are taken out, or
--- how the unread bytes end the hearing; want of memory changes nothing
+-- how the unread bytes end the hearing; running out of memory changes nothing but what is scanned
 abbrev pub IsNextOfGood : List Layer → StreamState → Heard → StreamState → Type 0
 IsNextOfGood fs s (heard.Message m) t = (rest : List ℕ) ×
-    (IsSpoken fs s.index m × (s.unread ≡ chained fs s.index m ++ rest) × (t ≡ record s { unread = rest; index = s.index + 1 }))
-IsNextOfGood fs s heard.Need t = IsEnding fs s.index s.unread needs × (t ≡ s)
+    (IsSpoken fs s.index m × (s.unread ≡ chained fs s.index m ++ rest) ×
+    (t ≡ record s { unread = rest; index = s.index + 1; scanned = 0 }) × (s.scanned + length rest ≤ length s.unread))
+IsNextOfGood fs s heard.Need t = IsEnding fs s.index s.unread needs × (t ≡ record s { scanned = length s.unread })
 IsNextOfGood fs s (heard.Bad b) t =
-    IsEnding fs s.index s.unread (fails b.layer b.place) × (b.message ≡ s.index) × (t ≡ record s { bad = Some b })
-IsNextOfGood fs s heard.NoMemory t = t ≡ s
+    IsEnding fs s.index s.unread (fails b.layer b.place) × (b.message ≡ s.index) ×
+    (t ≡ record s { bad = Some b; scanned = t.scanned }) × ScansOn s t
+IsNextOfGood fs s heard.NoMemory t = (t ≡ record s { scanned = t.scanned }) × ScansOn s t
 
 -- what is answered, by the Bad that was answered before: after one it is the same for good
 abbrev pub IsNextAfter : Option BadAt → List Layer → StreamState → Heard → StreamState → Type 0

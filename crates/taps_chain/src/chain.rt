@@ -37,13 +37,18 @@ impl<'a> Chain<'a> {
     }
 
     /// The same chain once more, over the same shelf.
-    pub fn copy(&self, alloc: Global) -> Result<Chain<'a>, NoMemory>
+    pub fn copy(&self) -> Result<Chain<'a>, NoMemory>
         ensures { IfOk result (λ chain. layers_of ⟦<dyn Framer as Framer>⟧ chain ≡
             layers_of ⟦<dyn Framer as Framer>⟧ self.now) }
     {
         Ok(Chain {
-            framers: Vec::from_slice(alloc, &self.framers)?,
+            framers: Vec::from_slice(self.allocator(), &self.framers)?,
         })
+    }
+
+    /// The allocator that the chain keeps.
+    pub(crate) fn allocator(&self) -> Global {
+        *self.framers.allocator()
     }
 
     /// Whether it has no layer.
@@ -62,7 +67,7 @@ impl<'a> Chain<'a> {
     }
 
     /// The framer of a layer.
-    pub(crate) fn at(&self, depth: usize) -> &Box<dyn Framer>
+    pub(crate) fn at(&self, depth: usize) -> &'a Box<dyn Framer>
         requires { depth < length (layers_of ⟦<dyn Framer as Framer>⟧ self.now) }
         ensures { slice_get (layers_of ⟦<dyn Framer as Framer>⟧ self.now) depth ≡ Some (layer result.now) }
     {
@@ -77,8 +82,8 @@ impl<'a> Chain<'a> {
         self.vouch_each();
     }
 
-    // The laws of each layer.
-    fn vouch_each(&self)
+    /// Nothing: its clause has the laws of each layer.
+    pub(crate) fn vouch_each(&self)
         ensures { AreFramers (layers_of ⟦<dyn Framer as Framer>⟧ self.now) }
     {
         for depth in 0..self.len() {

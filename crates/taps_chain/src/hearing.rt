@@ -1,65 +1,43 @@
-ghost use Rattle.std.specs.Prelude.{◌≡◌, ◌-◌, ◌+◌, ◌^◌, ◌<◌, ◌≤◌, ◌++◌, ◌∷◌, [], None, length, OnOk, OnErr};
+ghost use Rattle.std.specs.Prelude.{◌≡◌, ◌+◌, ◌≤◌, ◌<◌, [], None, Some, length, slice_get, IfSome, IfOk};
 ghost use Rattle.taps_chain.specs.Layers.{layers_of};
 ghost use Rattle.taps_chain.specs.ChainLaws.{AreFramers};
-ghost use Rattle.taps_chain.specs.Hearings.{joined, IsHearingOf, IsDrained, IsDrainedInPart, StandsFor, BeginsWith};
+ghost use Rattle.taps_chain.specs.Hearings.{joined, IsHearingOf, IsUnderWay, Waits};
 
-use crate::next::hear_next;
-use crate::stream::Stream;
-use crate::{Chain, FeedError, Heard};
+use crate::next::{Found, next_uncounted};
+use crate::progress::Progress;
+use crate::{BadAt, Chain, Heard};
 use std::alloc::Global;
 use taps_base::{Body, List, NoMemory};
 use taps_framer::Framer;
 
-/// How the hearing of pieces ends.
+/// How the hearing of bytes ends.
 #[derive(Debug, Drop)]
 pub struct Hearing {
     /// `Need`, `Bad` or `NoMemory`, and never a message.
     pub end: Heard,
-    /// The number of bytes behind the messages, also of pieces that were not fed after a Bad.
+    /// The number of bytes behind the messages, also of those that came after a Bad.
     pub rest: u64,
 }
 
 /// Hears the messages of the pieces, one piece behind the other.
-pub fn hear_pieces(
-    alloc: Global,
-    chain: Chain<'_>,
-    pieces: &List<Body>,
-    sink: &mut List<Body>,
-) -> Hearing
+pub fn hear_pieces(chain: Chain<'_>, pieces: &List<Body>, sink: &mut List<Body>) -> Hearing
     requires some { 0 < length (layers_of ⟦<dyn Framer as Framer>⟧ chain) }
     requires empty { sink.old.items ≡ [] }
     requires few { length (joined pieces.now.items) ≤ 4194304 }
     ensures { IsHearingOf (layers_of ⟦<dyn Framer as Framer>⟧ chain.entry)
         (joined pieces.now.items) sink.new.items result.end result.rest }
 {
-    chain.vouch();
-    let mut stream = Stream::new(alloc);
-    let mut skipped = 0;
-    for piece in pieces.as_slice() {
-        match hear_piece(
-            alloc,
-            &chain,
-            &mut stream,
-            &mut skipped,
-            piece.bytes(),
-            sink,
-        ) {
-            Ok(()) => {}
-            Err(NoMemory) => return cut_short(),
-        }
-    }
-    hearing_of(&stream, skipped)
+    chain.vouch_each();
+    let bytes = match joined_bytes(chain.allocator(), pieces.as_slice()) {
+        Ok(bytes) => bytes,
+        Err(NoMemory) => return out_of_memory(),
+    };
+    hear_joined(&chain, &bytes, pieces.as_slice(), sink)
 }
 
 /// Hears the messages of bytes that come in pieces of so many bytes, the last of which may be
 /// shorter.
-pub fn hear_bytes(
-    alloc: Global,
-    chain: Chain<'_>,
-    bytes: &[u8],
-    piece: usize,
-    sink: &mut List<Body>,
-) -> Hearing
+pub fn hear_bytes(chain: Chain<'_>, bytes: &[u8], piece: usize, sink: &mut List<Body>) -> Hearing
     requires some { 0 < length (layers_of ⟦<dyn Framer as Framer>⟧ chain) }
     requires empty { sink.old.items ≡ [] }
     requires few { length bytes.now ≤ 4194304 }
@@ -67,20 +45,91 @@ pub fn hear_bytes(
     ensures { IsHearingOf (layers_of ⟦<dyn Framer as Framer>⟧ chain.entry)
         bytes.now sink.new.items result.end result.rest }
 {
-    chain.vouch();
-    let mut stream = Stream::new(alloc);
-    let mut skipped = 0;
-    for part in bytes.chunks(piece) {
-        match hear_piece(alloc, &chain, &mut stream, &mut skipped, part, sink) {
-            Ok(()) => {}
-            Err(NoMemory) => return cut_short(),
+    chain.vouch_each();
+    let first = chain.at(0);
+    let mut progress = Progress::start(first);
+    'pieces: while progress.fed < bytes.len() {
+        let more = piece.min(bytes.len() - progress.fed);
+        if let Some(hearing) = hear_more(&chain, first, bytes, more, &mut progress, sink) {
+            return hearing;
         }
     }
-    hearing_of(&stream, skipped)
+    needs_more(bytes, &progress)
 }
 
-// How the hearing ends where memory is wanting.
-fn cut_short() -> Hearing
+// The pieces in one buffer, one behind the other.
+fn joined_bytes(alloc: Global, pieces: &[Body]) -> Result<Vec<u8>, NoMemory>
+    ensures { IfOk result (λ bytes. bytes.items ≡ joined pieces.now) }
+{
+    let mut bytes = Vec::new(alloc);
+    for piece in pieces {
+        bytes.extend_from_slice(piece.bytes())?;
+    }
+    Ok(bytes)
+}
+
+// Hears the messages of the pieces, which are these bytes.
+fn hear_joined(chain: &Chain<'_>, bytes: &[u8], pieces: &[Body], sink: &mut List<Body>) -> Hearing
+    requires some { 0 < length (layers_of ⟦<dyn Framer as Framer>⟧ chain.now) }
+    requires framers { AreFramers (layers_of ⟦<dyn Framer as Framer>⟧ chain.now) }
+    requires empty { sink.old.items ≡ [] }
+    requires few { length bytes.now ≤ 4194304 }
+    requires joined { bytes.now ≡ joined pieces.now }
+    ensures { IsHearingOf (layers_of ⟦<dyn Framer as Framer>⟧ chain.now)
+        bytes.now sink.new.items result.end result.rest }
+{
+    let first = chain.at(0);
+    let mut progress = Progress::start(first);
+    for piece in pieces {
+        let more = piece.bytes().len();
+        if let Some(hearing) = hear_more(chain, first, bytes, more, &mut progress, sink) {
+            return hearing;
+        }
+    }
+    needs_more(bytes, &progress)
+}
+
+// Hears all messages of the bytes that came, so many more now. It answers only where the hearing ends.
+fn hear_more(
+    chain: &Chain<'_>,
+    first: &Box<dyn Framer>,
+    bytes: &[u8],
+    more: usize,
+    progress: &mut Progress,
+    sink: &mut List<Body>,
+) -> Option<Hearing>
+    requires first { slice_get (layers_of ⟦<dyn Framer as Framer>⟧ chain.now) 0 ≡ Some (layer first.now) }
+    requires framers { AreFramers (layers_of ⟦<dyn Framer as Framer>⟧ chain.now) }
+    requires few { length bytes.now ≤ 4194304 }
+    requires more { progress.old.fed + more ≤ length bytes.now }
+    requires heard { IsUnderWay (layers_of ⟦<dyn Framer as Framer>⟧ chain.now) (layer first.now) (scans first.now)
+        bytes.now sink.old.items progress.old }
+    ensures fed { progress.new.fed ≡ progress.old.fed + more }
+    ensures goes_on { result ≡ None → Waits (layers_of ⟦<dyn Framer as Framer>⟧ chain.now)
+        (layer first.now) (scans first.now) bytes.now sink.new.items progress.new }
+    ensures ends { IfSome result (λ hearing. IsHearingOf (layers_of ⟦<dyn Framer as Framer>⟧ chain.now)
+        bytes.now sink.new.items hearing.end hearing.rest) }
+{
+    progress.fed += more;
+    'messages: loop {
+        let unread = &bytes[progress.taken..progress.fed];
+        match next_uncounted(chain, first, progress.index, unread, &mut progress.look) {
+            Found::Message(body) => {
+                if let Err(NoMemory) = sink.reserve(1) {
+                    return Some(out_of_memory());
+                }
+                sink.add(body);
+                progress.take_out(first);
+            }
+            Found::Need => return None,
+            Found::Bad { layer, place } => return Some(fails(bytes, progress, layer, place)),
+            Found::NoMemory => return Some(out_of_memory()),
+        }
+    }
+}
+
+// How the hearing ends where memory runs out.
+fn out_of_memory() -> Hearing
     ensures { result.end ≡ Heard.NoMemory }
 {
     Hearing {
@@ -89,82 +138,31 @@ fn cut_short() -> Hearing
     }
 }
 
-// How the hearing ends where no piece is left.
-fn hearing_of(stream: &Stream, skipped: usize) -> Hearing
-    requires { length stream.now.unread + skipped < 2 ^ 64 }
-    ensures { (fs : _) (x : _) (ms : _) → StandsFor fs x ms stream.now skipped →
-        IsHearingOf fs x ms result.end result.rest }
+// How the hearing ends where the unread bytes are bad.
+fn fails(bytes: &[u8], progress: &Progress, layer: u8, place: u64) -> Hearing
+    requires { progress.now.taken ≤ length bytes.now }
+    ensures end { result.end ≡ Heard.Bad (record { message = progress.now.index; layer = layer; place = place }) }
+    ensures rest { result.rest + progress.now.taken ≡ length bytes.now }
 {
-    let end = match stream.bad() {
-        Some(bad) => Heard::Bad(bad),
-        None => Heard::Need,
+    let bad = BadAt {
+        message: progress.index,
+        layer,
+        place,
     };
     Hearing {
-        end,
-        rest: (stream.held() + skipped) as u64,
+        end: Heard::Bad(bad),
+        rest: (bytes.len() - progress.taken) as u64,
     }
 }
 
-// Hears the messages that a piece completes. After a Bad its bytes are only counted.
-fn hear_piece(
-    alloc: Global,
-    chain: &Chain<'_>,
-    stream: &mut Stream,
-    skipped: &mut usize,
-    piece: &[u8],
-    sink: &mut List<Body>,
-) -> Result<(), NoMemory>
-    requires some { 0 < length (layers_of ⟦<dyn Framer as Framer>⟧ chain.now) }
-    requires framers { AreFramers (layers_of ⟦<dyn Framer as Framer>⟧ chain.now) }
-    requires few { stream.old.index + length stream.old.unread + skipped.old + length piece.now ≤ 4194304 }
-    ensures stands { OnOk result ((x : _) →
-        StandsFor (layers_of ⟦<dyn Framer as Framer>⟧ chain.now) x sink.old.items stream.old skipped.old →
-        StandsFor (layers_of ⟦<dyn Framer as Framer>⟧ chain.now) (x ++ piece.now) sink.new.items stream.new skipped.new) }
-    ensures begins { OnErr result ((x : _) →
-        StandsFor (layers_of ⟦<dyn Framer as Framer>⟧ chain.now) x sink.old.items stream.old skipped.old →
-        BeginsWith (layers_of ⟦<dyn Framer as Framer>⟧ chain.now) (x ++ piece.now) sink.new.items) }
+// How the hearing ends where all bytes came.
+fn needs_more(bytes: &[u8], progress: &Progress) -> Hearing
+    requires { progress.now.taken ≤ length bytes.now }
+    ensures end { result.end ≡ Heard.Need }
+    ensures rest { result.rest + progress.now.taken ≡ length bytes.now }
 {
-    match stream.feed(piece) {
-        Ok(()) => hear_unread(alloc, chain, stream, sink),
-        Err(FeedError::Bad(_)) => {
-            *skipped += piece.len();
-            Ok(())
-        }
-        Err(FeedError::NoMemory) => Err(NoMemory),
+    Hearing {
+        end: Heard::Need,
+        rest: (bytes.len() - progress.taken) as u64,
     }
-}
-
-// Hears all messages of the unread bytes. Room for a message is made before it is taken out.
-fn hear_unread(
-    alloc: Global,
-    chain: &Chain<'_>,
-    stream: &mut Stream,
-    sink: &mut List<Body>,
-) -> Result<(), NoMemory>
-    requires some { 0 < length (layers_of ⟦<dyn Framer as Framer>⟧ chain.now) }
-    requires framers { AreFramers (layers_of ⟦<dyn Framer as Framer>⟧ chain.now) }
-    requires index { stream.old.index + length stream.old.unread < 2 ^ 64 - 1 }
-    requires good { stream.old.bad ≡ None }
-    ensures drained { OnOk result (IsDrained (layers_of ⟦<dyn Framer as Framer>⟧ chain.now)
-        stream.old sink.old.items stream.new sink.new.items) }
-    ensures in_part { OnErr result (IsDrainedInPart (layers_of ⟦<dyn Framer as Framer>⟧ chain.now)
-        stream.old sink.old.items sink.new.items) }
-{
-    'messages: loop {
-        sink.reserve(1)?;
-        match hear_next(alloc, chain, stream) {
-            Heard::Message(body) => put(sink, body),
-            Heard::Need => return Ok(()),
-            Heard::Bad(_) => return Ok(()),
-            Heard::NoMemory => return Err(NoMemory),
-        }
-    }
-}
-
-// Puts a body behind those of a sink that has room.
-fn put(sink: &mut List<Body>, body: Body)
-    requires { 0 < sink.old.spare }
-    ensures { sink.new.items ≡ sink.old.items ++ body ∷ [] }
-{
-    sink.push(body).unwrap();
 }

@@ -5,10 +5,10 @@ mod chain;
 mod ears;
 mod heard;
 mod hearing;
+mod look;
 mod next;
+mod progress;
 mod stream;
-#[cfg(test)]
-mod tests;
 mod whole;
 mod wrap;
 

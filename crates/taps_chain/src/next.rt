@@ -1,93 +1,129 @@
-ghost use Rattle.std.specs.Prelude.{◌≡◌, ◌-◌, ◌^◌, ◌<◌, true, length, slice_get};
-ghost use Rattle.taps_framer.specs.Layers.{holds_whole_frame, first_frame};
+ghost use Rattle.std.specs.Prelude.{◌≡◌, ◌<◌, ◌≤◌, length, take, slice_get};
+ghost use Rattle.taps_framer.specs.Layers.{IsWholeFrame};
 ghost use Rattle.taps_chain.specs.Layers.{layers_of};
 ghost use Rattle.taps_chain.specs.ChainLaws.{AreFramers};
+ghost use Rattle.taps_chain.specs.Counts.{CountsHanded, CountsIn};
 ghost use Rattle.taps_chain.specs.Founds.{IsFound};
-ghost use Rattle.taps_chain.specs.Nexts.{IsNext};
+ghost use Rattle.taps_chain.specs.Looks.{HasLooked, LooksOn};
 
-use crate::stream::Stream;
+use crate::look::Look;
 use crate::whole::{body_of, whole_above};
-use crate::{BadAt, Chain, Heard, WholeAnswer};
-use std::alloc::Global;
+use crate::{Chain, WholeAnswer};
+use std::marker::Brand;
+use std::sync::ledger::{Blank, Ledger};
 use taps_base::Body;
-use taps_framer::{Framer, Sight, read_in};
+use taps_framer::{Framer, Seen, Steps};
 
-// What stands first in unread bytes.
-enum Found {
-    Message { body: Body, used: usize },
+/// What stands first in unread bytes.
+pub(crate) enum Found {
+    /// A message, in the bytes that layer 0 scanned.
+    Message(Body),
+    /// The beginning of a frame of layer 0.
     Need,
+    /// Bytes that are bad at a layer.
     Bad { layer: u8, place: u64 },
+    /// Memory ran out.
     NoMemory,
 }
 
-/// The next message of a stream, which is then taken out of it.
-pub(crate) fn hear_next(alloc: Global, chain: &Chain<'_>, stream: &mut Stream) -> Heard
-    requires some { 0 < length (layers_of ⟦<dyn Framer as Framer>⟧ chain.now) }
-    requires framers { AreFramers (layers_of ⟦<dyn Framer as Framer>⟧ chain.now) }
-    requires index { stream.old.index < 2 ^ 64 - 1 }
-    ensures { IsNext (layers_of ⟦<dyn Framer as Framer>⟧ chain.now) stream.old result stream.new }
-{
-    if let Some(bad) = stream.bad() {
-        return Heard::Bad(bad);
-    }
-    match first_message(alloc, chain, stream.index(), stream.unread()) {
-        Found::Message { body, used } => {
-            stream.take_out(used);
-            Heard::Message(body)
-        }
-        Found::Need => Heard::Need,
-        Found::Bad { layer, place } => {
-            let bad = BadAt {
-                message: stream.index(),
-                layer,
-                place,
-            };
-            stream.fail(bad);
-            Heard::Bad(bad)
-        }
-        Found::NoMemory => Heard::NoMemory,
-    }
-}
-
-// The first message of unread bytes, or how they end the hearing.
-fn first_message(alloc: Global, chain: &Chain<'_>, index: u64, unread: &[u8]) -> Found
-    requires some { 0 < length (layers_of ⟦<dyn Framer as Framer>⟧ chain.now) }
-    requires framers { AreFramers (layers_of ⟦<dyn Framer as Framer>⟧ chain.now) }
-    ensures { IsFound (layers_of ⟦<dyn Framer as Framer>⟧ chain.now) index unread.now result }
-{
-    let framer = chain.at(0);
-    match read_in(framer, index, unread) {
-        Sight::Need => Found::Need,
-        Sight::Bad { place } => Found::Bad {
-            layer: 0,
-            place: place as u64,
-        },
-        Sight::Whole { used } => message_in(alloc, chain, framer, index, unread, used),
-    }
-}
-
-// The message in the frame of layer 0 that unread bytes begin with.
-fn message_in(
-    alloc: Global,
+/// What stands first in unread bytes, at which layer 0 looks on from where it stopped. The bytes of
+/// the watched layer are counted.
+pub(crate) fn next_in<L: Ledger>(
     chain: &Chain<'_>,
-    framer: &Box<dyn Framer>,
+    first: &Box<dyn Framer>,
+    index: u64,
+    unread: &[u8],
+    look: &mut Look,
+    watch: u8,
+    steps: &mut Steps<L>,
+) -> Found
+    requires first { slice_get (layers_of ⟦<dyn Framer as Framer>⟧ chain.now) 0 ≡ Some (layer first.now) }
+    requires framers { AreFramers (layers_of ⟦<dyn Framer as Framer>⟧ chain.now) }
+    requires looked { HasLooked (layer first.now) (scans first.now) index unread.now look.old }
+    ensures found { IsFound (layers_of ⟦<dyn Framer as Framer>⟧ chain.now) index unread.now
+        look.new.scanned result }
+    ensures looks { LooksOn (layer first.now) (scans first.now) index unread.now look.old look.new }
+    ensures counted { CountsIn (layers_of ⟦<dyn Framer as Framer>⟧ chain.now) index unread.now watch
+        look.old.scanned look.new.scanned steps.old steps.new }
+{
+    look.look_on(first, index, unread, watch == 0, steps);
+    match look.seen {
+        Seen::More(_) => Found::Need,
+        Seen::Whole => message_in(chain, first, index, unread, look.scanned, watch, steps),
+        Seen::Bad => Found::Bad {
+            layer: 0,
+            place: (look.scanned - 1) as u64,
+        },
+    }
+}
+
+// The message in the frame of layer 0 that the first bytes are.
+fn message_in<L: Ledger>(
+    chain: &Chain<'_>,
+    first: &Box<dyn Framer>,
     index: u64,
     unread: &[u8],
     used: usize,
+    watch: u8,
+    steps: &mut Steps<L>,
 ) -> Found
-    requires first { slice_get (layers_of ⟦<dyn Framer as Framer>⟧ chain.now) 0 ≡ Some (layer framer.now) }
+    requires first { slice_get (layers_of ⟦<dyn Framer as Framer>⟧ chain.now) 0 ≡ Some (layer first.now) }
     requires framers { AreFramers (layers_of ⟦<dyn Framer as Framer>⟧ chain.now) }
-    requires holds { holds_whole_frame (layer framer.now) index unread.now ≡ true }
-    requires used { used ≡ length (first_frame (layer framer.now) index unread.now) }
-    ensures { IsFound (layers_of ⟦<dyn Framer as Framer>⟧ chain.now) index unread.now result }
+    requires within { used ≤ length unread.now }
+    requires whole { IsWholeFrame (layer first.now) index (take used unread.now) }
+    ensures found { IsFound (layers_of ⟦<dyn Framer as Framer>⟧ chain.now) index unread.now used result }
+    ensures uncounted { watch ≡ 0 → steps.new ≡ steps.old }
+    ensures counted { 0 < watch → CountsHanded (layers_of ⟦<dyn Framer as Framer>⟧ chain.now) index
+        (take used unread.now) watch steps.old steps.new }
 {
-    let body = match body_of(alloc, framer, index, &unread[..used]) {
+    let body = match body_of(chain.allocator(), first, index, &unread[..used]) {
         Ok(body) => body,
         Err(_) => return Found::NoMemory,
     };
-    match whole_above(alloc, chain, 1, index, body) {
-        WholeAnswer::Message(body) => Found::Message { body, used },
+    match whole_above(chain, 1, index, body, watch, steps) {
+        WholeAnswer::Message(body) => Found::Message(body),
         WholeAnswer::Bad { layer, place } => Found::Bad { layer, place },
         WholeAnswer::NoMemory => Found::NoMemory,
     }
+}
+
+/// What stands first in unread bytes, with no count.
+pub(crate) fn next_uncounted(
+    chain: &Chain<'_>,
+    first: &Box<dyn Framer>,
+    index: u64,
+    unread: &[u8],
+    look: &mut Look,
+) -> Found
+    requires first { slice_get (layers_of ⟦<dyn Framer as Framer>⟧ chain.now) 0 ≡ Some (layer first.now) }
+    requires framers { AreFramers (layers_of ⟦<dyn Framer as Framer>⟧ chain.now) }
+    requires looked { HasLooked (layer first.now) (scans first.now) index unread.now look.old }
+    ensures found { IsFound (layers_of ⟦<dyn Framer as Framer>⟧ chain.now) index unread.now
+        look.new.scanned result }
+    ensures looks { LooksOn (layer first.now) (scans first.now) index unread.now look.old look.new }
+{
+    next_from::<Brand>(chain, first, index, unread, look, Blank::new(1))
+}
+
+// The same with a count that nobody reads.
+fn next_from<L: Ledger>(
+    chain: &Chain<'_>,
+    first: &Box<dyn Framer>,
+    index: u64,
+    unread: &[u8],
+    look: &mut Look,
+    blank: Blank,
+) -> Found
+    requires first { slice_get (layers_of ⟦<dyn Framer as Framer>⟧ chain.now) 0 ≡ Some (layer first.now) }
+    requires framers { AreFramers (layers_of ⟦<dyn Framer as Framer>⟧ chain.now) }
+    requires looked { HasLooked (layer first.now) (scans first.now) index unread.now look.old }
+    requires name { blank.name ≡ L.name }
+    requires parts { blank.parts ≡ L.parts }
+    requires some { 0 < blank.parts }
+    ensures found { IsFound (layers_of ⟦<dyn Framer as Framer>⟧ chain.now) index unread.now
+        look.new.scanned result }
+    ensures looks { LooksOn (layer first.now) (scans first.now) index unread.now look.old look.new }
+{
+    let mut steps: Steps<L> = Steps::none(blank);
+    next_in(chain, first, index, unread, look, 0, &mut steps)
 }

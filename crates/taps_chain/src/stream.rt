@@ -6,11 +6,12 @@ use std::alloc::Global;
 use std::marker::Model;
 use taps_base::NoMemory;
 
-/// What is kept of a stream: the bytes from `from` on are unread.
+/// What is kept of a stream: the bytes from `from` on are unread, and so many of them are scanned.
 #[derive(Drop)]
 pub(crate) struct Stream {
     bytes: Vec<u8>,
     from: usize,
+    scanned: usize,
     room: usize,
     index: u64,
     bad: Option<BadAt>,
@@ -22,19 +23,20 @@ impl Model for Stream {
 
     ghost Value = { StreamState };
 
-    ghost view = { λ s. record { unread = drop s.from s.bytes.items; index = s.index; bad = s.bad; room = s.room } };
+    ghost view = { λ s. record { unread = drop s.from s.bytes.items; index = s.index; bad = s.bad; room = s.room; scanned = s.scanned } };
 
-    ghost invariant = { λ s. (s.from ≤ vec_len s.bytes) × (vec_len s.bytes + s.room ≤ vec_capacity s.bytes) };
+    ghost invariant = { λ s. (s.from + s.scanned ≤ vec_len s.bytes) × (vec_len s.bytes + s.room ≤ vec_capacity s.bytes) };
 }
 
 impl Stream {
     /// A stream of which nothing came, which takes no memory.
     pub(crate) fn new(alloc: Global) -> Stream
-        ensures { result ≡ record { unread = []; index = 0; bad = None; room = 0 } }
+        ensures { result ≡ record { unread = []; index = 0; bad = None; room = 0; scanned = 0 } }
     {
         Stream {
             bytes: Vec::new(alloc),
             from: 0,
+            scanned: 0,
             room: 0,
             index: 0,
             bad: None,
@@ -53,6 +55,13 @@ impl Stream {
         ensures { result ≡ length self.now.unread }
     {
         self.bytes.len() - self.from
+    }
+
+    /// The number of unread bytes that are scanned.
+    pub(crate) fn scanned(&self) -> usize
+        ensures { result ≡ self.now.scanned }
+    {
+        self.scanned
     }
 
     /// The index of the next message.
@@ -110,13 +119,22 @@ impl Stream {
         Ok(())
     }
 
-    /// Takes the next message's bytes out.
-    pub(crate) fn take_out(&mut self, used: usize)
-        requires within { used ≤ length self.old.unread }
-        requires index { self.old.index < 2 ^ 64 - 1 }
-        ensures { self.new ≡ record self.old { unread = drop used self.old.unread; index = self.old.index + 1 } }
+    /// So many of the unread bytes are scanned.
+    pub(crate) fn scan_to(&mut self, scanned: usize)
+        requires { scanned ≤ length self.old.unread }
+        ensures { self.new ≡ record self.old { scanned = scanned } }
     {
-        self.from += used;
+        self.scanned = scanned;
+    }
+
+    /// Takes the scanned bytes out, which are the next message's.
+    pub(crate) fn take_out(&mut self)
+        requires { self.old.index < 2 ^ 64 - 1 }
+        ensures { self.new ≡
+            record self.old { unread = drop self.old.scanned self.old.unread; index = self.old.index + 1; scanned = 0 } }
+    {
+        self.from += self.scanned;
+        self.scanned = 0;
         self.index += 1;
     }
 

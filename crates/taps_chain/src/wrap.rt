@@ -30,13 +30,14 @@ impl From<NoMemory> for WrapError {
 
 impl<'a> Chain<'a> {
     /// The bytes of a body as the message of this index. The last layer frames it first.
-    pub fn wrap(&self, alloc: Global, index: u64, body: &[u8]) -> Result<Vec<u8>, WrapError>
+    pub fn wrap(&self, index: u64, body: &[u8]) -> Result<Vec<u8>, WrapError>
         ensures spoken { OnOk result (IsSpoken (layers_of ⟦<dyn Framer as Framer>⟧ self.now) index body.now) }
         ensures chained { IfOk result (λ bytes. bytes.items ≡
             chained (layers_of ⟦<dyn Framer as Framer>⟧ self.now) index body.now) }
         ensures refused { IfErr result (IsRefusal
             (chain_refusal (layers_of ⟦<dyn Framer as Framer>⟧ self.now) index body.now)) }
     {
+        let alloc = self.allocator();
         let mut current = copied(alloc, body)?;
         let mut depth = self.len();
         while depth > 0 {

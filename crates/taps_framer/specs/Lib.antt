@@ -1,3 +1,4 @@
 pub mod Prefixes
 pub mod Layers
 pub mod Sights
+pub mod Scans

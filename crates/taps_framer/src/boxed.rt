@@ -1,9 +1,10 @@
 // Each call of a boxed framer.
-ghost use Rattle.std.specs.Prelude.{◌≡◌, ◌+◌, ◌≤◌, ◌++◌, true, length, vec_len, vec_capacity, IsOk, OnOk, OnErr};
+ghost use Rattle.std.specs.Prelude.{◌≡◌, ◌+◌, ◌≤◌, ◌++◌, ◌∷◌, [], ℕ, List, true, length, vec_len, vec_capacity, IsOk, OnOk, OnErr};
 ghost use Rattle.taps_framer.specs.Layers.{IsWholeFrame, IsFramer};
 ghost use Rattle.taps_framer.specs.Sights.{IsSight};
+ghost use Rattle.taps_framer.specs.Scans.{Represents, IsSeen, IsRun};
 
-use crate::{Framer, Sight};
+use crate::{Framer, Run, Scan, Seen, Sight};
 use taps_base::NoMemory;
 
 /// The name of a boxed framer.
@@ -55,6 +56,31 @@ pub fn unwrap_in(
     ensures room { vec_len out.old + length frame.now ≤ vec_capacity out.old → IsOk result }
 {
     framer.unwrap(index, frame, out)
+}
+
+/// A boxed framer's scan of no bytes.
+pub fn start_in(framer: &Box<dyn Framer>, index: u64) -> Scan
+    ensures { Represents (layer framer.now) (scans framer.now) index result [] }
+{
+    framer.start(index)
+}
+
+/// Looks at the next byte of a frame by a boxed framer.
+pub fn step_in(framer: &Box<dyn Framer>, index: u64, scan: Scan, byte: u8) -> Seen
+    requires { (x : List ℕ) × Represents (layer framer.now) (scans framer.now) index scan x }
+    ensures { (x : List ℕ) → Represents (layer framer.now) (scans framer.now) index scan x →
+        IsSeen (layer framer.now) (scans framer.now) index (x ++ byte ∷ []) result }
+{
+    framer.step(index, scan, byte)
+}
+
+/// Looks at the next bytes of a frame by a boxed framer.
+pub fn advance_in(framer: &Box<dyn Framer>, index: u64, scan: Scan, bytes: &[u8]) -> Run
+    requires { (x : List ℕ) × Represents (layer framer.now) (scans framer.now) index scan x }
+    ensures { (x : List ℕ) → Represents (layer framer.now) (scans framer.now) index scan x →
+        IsRun (layer framer.now) (scans framer.now) index x bytes.now result }
+{
+    framer.advance(index, scan, bytes)
 }
 
 /// Nothing: its clause has the laws of a boxed framer, at every index.

@@ -1,16 +1,18 @@
 -- Heads of a length in decimal and one byte.
 use Rattle.std.proofs.Common.{◌≡◌, ℕ, ◌+◌, ◌-◌, ◌*◌, ◌<◌, ◌≤◌, true, false, max, List, [], ◌∷◌, ◌++◌, length, get_or, take, refl, ap, sym, ◌∙◌, subst, arith, length-append, append_assoc, length-take}
-use Rattle.std.proofs.lemmas.List.{take_more}
+use Rattle.std.proofs.lemmas.List.{take_more, take_all}
 use Rattle.std.specs.Char.{is_ascii_digit}
 use Rattle.std.specs.Str.Parse.{digits_value}
 use Rattle.std.specs.Fmt.{decimal}
 use Rattle.std.proofs.lemmas.Fmt.{decimal_nonempty}
 use Rattle.taps_framer.proofs.Prefixes.{append-cancel}
 use Rattle.taps_frames.specs.Formats.{IsLength, IsBegun, HasNoHead}
-use Rattle.taps_frames.specs.Heads.{IsWholeHead, IsBadHead}
-use Rattle.taps_frames.specs.Decimals.{leading_digits, told_size, decimal_format, IsStarted}
-use Rattle.taps_frames.proofs.HeadedLaws.{HasHeads}
-use Rattle.taps_frames.proofs.Decimals.{leads_none, leads_to, leads_all, leads_through, written, started_of, started_whole, started_more, not_started}
+use Rattle.taps_framer.specs.Prefixes.{are_bytes}
+use Rattle.taps_framer.proofs.Bytes.{are_bytes-take}
+use Rattle.taps_frames.specs.Heads.{IsWholeHead, IsBadHead, IsOneHead}
+use Rattle.taps_frames.specs.Scans.{HasHeads, IsHeadPart}
+use Rattle.taps_frames.specs.Decimals.{leading_digits, told_size, decimal_format, written_number, IsStarted}
+use Rattle.taps_frames.proofs.Decimals.{leads_none, leads_to, leads_all, leads_through, written, started_none, started_of, started_whole, started_more, not_started}
 
 told_is : (least : ℕ) (x ds : List ℕ) (v : ℕ) → leading_digits x ≡ ds → digits_value 10 ds ≡ v → told_size least x ≡ max least v
 unfolding told_size
@@ -82,16 +84,21 @@ module _ (name : List ℕ) (least separator : ℕ) (tail : List ℕ) (few : leas
     begins = begun_none;
   }
 
+  -- part of a head is digits that start a length
+  begun_started : (x : List ℕ) → IsBegun (decimal_format name least separator tail) i x → IsStarted least x (digits_value 10 x)
+  begun_started [] g = started_none least
+  begun_started (p ∷ x) g =
+      let w = cut_last (decimal (told_size least (p ∷ x))) (p ∷ x) g.more separator g.goes_on g.some in
+      started_of least (told_size least (p ∷ x)) (p ∷ x) w.0 few g.is_length.from g.is_length.to w.1 (omega arith)
+
   -- the whole head
-  pub whole_digits : (x : List ℕ) (p v : ℕ) → IsStarted least (take p x) v → 0 < p → p < length x → get_or x p 0 ≡ separator →
-      IsWholeHead (decimal_format name least separator tail) i x (p + 1) v
-  whole_digits x p v s o h e =
-      let l : 1 ≤ length (take p x) = omega (arith, o, h, length-take p x) in
-      record {
-        within = omega arith;
-        is_length = record { from = s.large l; to = s.small };
-        split = take_more x p 0 h ∙ ap (λ (c : ℕ). take p x ++ c ∷ []) e ∙ ap (λ (w : List ℕ). w ++ separator ∷ []) (sym (written least (take p x) v s l));
-      }
+  whole_digits : (x : List ℕ) (v : ℕ) → IsStarted least x v → 0 < length x →
+      IsOneHead (decimal_format name least separator tail) i (x ++ separator ∷ []) v
+  whole_digits x v s o = record {
+    within = omega arith;
+    is_length = record { from = s.large o; to = s.small };
+    split = take_all (length (x ++ separator ∷ [])) (x ++ separator ∷ []) (omega arith) ∙ ap (λ (w : List ℕ). w ++ separator ∷ []) (sym (written least x v s o));
+  }
 
   -- a byte that is no digit, and not the one behind the digits
   no_glyph : (ds : List ℕ) (v c : ℕ) → IsStarted least ds v → is_ascii_digit c ≡ false → (c ≡ separator → length ds ≡ 0) →
@@ -113,7 +120,38 @@ module _ (name : List ℕ) (least separator : ℕ) (tail : List ℕ) (few : leas
       let d : decimal n ≡ (ds ++ c ∷ []) ++ leading_digits y = sym (leads_head n z l) ∙ ap leading_digits (sym a) ∙ leads_through ds c y s.digits k in
       none _ (started_of least n (ds ++ c ∷ []) (leading_digits y) few l.from l.to d (omega (arith, length-append ds (c ∷ []))))
 
-  bad_at : (x : List ℕ) (p v : ℕ) → IsStarted least (take p x) v → p < length x →
+  -- part of a head, and the next byte
+  module _ (count value c : ℕ) (x : List ℕ) (p : IsHeadPart (decimal_format name least separator tail) written_number i count value x) where
+    pub part_started : IsStarted least x value
+    part_started = subst (λ (v : ℕ). IsStarted least x v) p.numbered (begun_started x p.begun)
+
+    pub whole_with : c ≡ separator → 0 < count → IsOneHead (decimal_format name least separator tail) i (x ++ c ∷ []) value
+    whole_with e o = let k = p.counted in
+        subst (λ (v : ℕ). IsOneHead (decimal_format name least separator tail) i (x ++ v ∷ []) value) (sym e) (whole_digits x value part_started (omega (arith, k, o)))
+
+    pub none_with : is_ascii_digit c ≡ false → (c ≡ separator → count ≡ 0) → HasNoHead (decimal_format name least separator tail) i (x ++ c ∷ [])
+    none_with k none = let l = p.counted in no_glyph x value c part_started k (λ e. omega (arith, l, none e))
+
+    pub bad_with : is_ascii_digit c ≡ true → ((value ≡ 0 → count ≡ 0) × (least ≤ value * 10 + (c - 48)) × (value * 10 + (c - 48) ≤ 65535) → ⊥) →
+        HasNoHead (decimal_format name least separator tail) i (x ++ c ∷ [])
+    bad_with k none = let l = p.counted in no_digit x value c part_started k (λ w t.
+        let r = not_started least x value c w part_started k t in
+        none (λ z. omega (arith, l, r.0 z), r.1, r.2))
+
+    pub digit_with : is_ascii_digit c ≡ true → (value ≡ 0 → count ≡ 0) → least ≤ value * 10 + (c - 48) → value * 10 + (c - 48) ≤ 65535 →
+        IsBegun (decimal_format name least separator tail) i (x ++ c ∷ []) × (written_number i (x ++ c ∷ []) ≡ value * 10 + (c - 48))
+    digit_with k o h m =
+        let l = p.counted in
+        let s : IsStarted least (x ++ c ∷ []) (value * 10 + (c - 48)) = started_more least x value c part_started k (λ z. omega (arith, l, o z)) h m in
+        (begun_digits (x ++ c ∷ []) (value * 10 + (c - 48)) s, s.value)
+
+  pub more_started : (x : List ℕ) (p v : ℕ) → p < length x →
+      IsBegun (decimal_format name least separator tail) i (take p x ++ get_or x p 0 ∷ []) × (written_number i (take p x ++ get_or x p 0 ∷ []) ≡ v) →
+      IsStarted least (take (p + 1) x) v
+  more_started x p v h g = subst (λ (w : List ℕ). IsStarted least w v) (sym (take_more x p 0 h))
+      (subst (λ (u : ℕ). IsStarted least (take p x ++ get_or x p 0 ∷ []) u) g.1 (begun_started (take p x ++ get_or x p 0 ∷ []) g.0))
+
+  pub bad_at : (x : List ℕ) (p v : ℕ) → IsStarted least (take p x) v → p < length x →
       HasNoHead (decimal_format name least separator tail) i (take p x ++ get_or x p 0 ∷ []) →
       IsBadHead (decimal_format name least separator tail) i x p
   bad_at x p v s h none = record {
@@ -122,19 +160,21 @@ module _ (name : List ℕ) (least separator : ℕ) (tail : List ℕ) (few : leas
     none = subst (λ (w : List ℕ). HasNoHead (decimal_format name least separator tail) i w) (sym (take_more x p 0 h)) none;
   }
 
-  pub bad_glyph : (x : List ℕ) (p v : ℕ) → IsStarted least (take p x) v → p < length x → is_ascii_digit (get_or x p 0) ≡ false →
-      (get_or x p 0 ≡ separator → p ≡ 0) → IsBadHead (decimal_format name least separator tail) i x p
-  bad_glyph x p v s h k none = bad_at x p v s h (no_glyph (take p x) v (get_or x p 0) s k (λ e. omega (arith, none e, length-take p x)))
+  pub whole_at : (x : List ℕ) (p n : ℕ) → p < length x →
+      IsOneHead (decimal_format name least separator tail) i (take p x ++ get_or x p 0 ∷ []) n →
+      IsWholeHead (decimal_format name least separator tail) i x (p + 1) n
+  whole_at x p n h one = record {
+    within = omega arith;
+    is_length = one.is_length;
+    split = take_more x p 0 h ∙ sym (take_all (length (take p x ++ get_or x p 0 ∷ [])) (take p x ++ get_or x p 0 ∷ []) (omega arith)) ∙ one.split;
+  }
 
-  pub bad_digit : (x : List ℕ) (p v : ℕ) → IsStarted least (take p x) v → p < length x → is_ascii_digit (get_or x p 0) ≡ true →
-      ((v ≡ 0 → p ≡ 0) × (least ≤ v * 10 + (get_or x p 0 - 48)) × (v * 10 + (get_or x p 0 - 48) ≤ 65535) → ⊥) → IsBadHead (decimal_format name least separator tail) i x p
-  bad_digit x p v s h k none = bad_at x p v s h (no_digit (take p x) v (get_or x p 0) s k (λ w t.
-      let r = not_started least (take p x) v (get_or x p 0) w s k t in
-      none (λ z. omega (arith, r.0 z, h, length-take p x), r.1, r.2)))
-
--- one digit more
-pub one_more : (least : ℕ) (x : List ℕ) (p v : ℕ) → IsStarted least (take p x) v → p < length x → is_ascii_digit (get_or x p 0) ≡ true →
-    (v ≡ 0 → p ≡ 0) → least ≤ v * 10 + (get_or x p 0 - 48) → v * 10 + (get_or x p 0 - 48) ≤ 65535 →
-    IsStarted least (take (p + 1) x) (v * 10 + (get_or x p 0 - 48))
-one_more least x p v s h k o l m = subst (λ (w : List ℕ). IsStarted least w (v * 10 + (get_or x p 0 - 48))) (sym (take_more x p 0 h))
-    (started_more least (take p x) v (get_or x p 0) s k (λ z. omega (arith, o z, length-take p x)) l m)
+  -- the digits that a loop has read are part of a head
+  pub digits_part : (x : List ℕ) (p v : ℕ) → are_bytes x ≡ true → IsStarted least (take p x) v → p ≤ length x →
+      IsHeadPart (decimal_format name least separator tail) written_number i p v (take p x)
+  digits_part x p v a s h = record {
+    begun = begun_digits (take p x) v s;
+    counted = omega (arith, h, length-take p x);
+    numbered = s.value;
+    bytes = are_bytes-take p x a;
+  }

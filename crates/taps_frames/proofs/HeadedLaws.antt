@@ -1,5 +1,5 @@
 -- The laws of frames of a head, a body and a tail.
-use Rattle.std.proofs.Common.{◌≡◌, ℕ, ◌+◌, ◌-◌, ◌<◌, ◌≤◌, true, List, [], ◌∷◌, ◌++◌, length, take, drop, refl, ap, sym, ◌∙◌, subst, arith, length-append, append_assoc, inl, inr}
+use Rattle.std.proofs.Common.{◌≡◌, ℕ, ◌+◌, ◌-◌, ◌≤◌, true, List, [], ◌∷◌, ◌++◌, length, take, drop, refl, ap, sym, ◌∙◌, subst, arith, length-append, append_assoc, inl, inr}
 use Rattle.std.proofs.lemmas.List.{take_at, drop_at, drop_all}
 use Rattle.taps_framer.specs.Prefixes.{are_bytes}
 use Rattle.taps_framer.specs.Layers.{IsLawful, is_viable}
@@ -8,15 +8,8 @@ use Rattle.taps_framer.proofs.Prefixes.{append-nil, append-cancel, compared}
 use Rattle.taps_framer.proofs.Laws.{viable_when}
 use Rattle.taps_frames.specs.Bodies.{pad}
 use Rattle.taps_frames.specs.Formats.{Format, headed, IsLength, IsBegun}
+use Rattle.taps_frames.specs.Scans.{HasHeads}
 use Rattle.taps_frames.proofs.BodyLemmas.{body_of, body_least, body_most, body_bytes, length-pad, are_bytes-pad, pad-split, pad-front}
-
--- what the heads of a format keep
-pub record HasHeads (f : Format) (i : ℕ) : Type 0 where
-  pub some : (n : ℕ) → IsLength f n → 1 ≤ length (f.head i n)
-  pub told_is : (n : ℕ) (y : List ℕ) → IsLength f n → f.told i (f.head i n ++ y) ≡ n
-  pub width_is : (n : ℕ) (y : List ℕ) → IsLength f n → f.width i (f.head i n ++ y) ≡ length (f.head i n)
-  pub begun : (n : ℕ) (x z : List ℕ) → IsLength f n → f.head i n ≡ x ++ z → 0 < length z → IsBegun f i x
-  pub begins : IsBegun f i []
 
 -- a spoken body has the length of one
 pub spoken_length : (f : Format) (b : List ℕ) → (headed f).speaks b ≡ true → IsLength f (length b)

@@ -1,21 +1,20 @@
 -- What is seen where a head tells the length of the body.
-use Rattle.std.proofs.Common.{◌≡◌, ℕ, ◌+◌, ◌-◌, ◌<◌, ◌≤◌, true, false, Bool, cond, List, [], ◌∷◌, ◌++◌, length, get_or, take, drop, ap, sym, ◌∙◌, subst, arith, length-append, append_assoc, inl, inr, length-take, length-drop, get_or-take}
+use Rattle.std.proofs.Common.{◌≡◌, ℕ, ◌+◌, ◌-◌, ◌<◌, ◌≤◌, true, false, List, [], ◌∷◌, ◌++◌, length, get_or, take, drop, ap, sym, ◌∙◌, subst, arith, length-append, append_assoc, length-take, length-drop, get_or-take}
 use Rattle.std.proofs.lemmas.List.{take-append-drop, take_at, drop_at, get_or_append_left}
 use Rattle.std.proofs.Math.Seq.{take-add, get_or-append_seam}
-use Rattle.std.proofs.lemmas.Bool.{cases_lt}
-use Rattle.taps_framer.specs.declared.sight.Sight.TheVariants as sight
 use Rattle.taps_framer.specs.Prefixes.{are_bytes}
 use Rattle.taps_framer.specs.Layers.{IsLawful, IsWholeFrame, is_viable, holds_whole_frame, lives, first_frame}
-use Rattle.taps_framer.specs.Sights.{IsBadPlace, IsSight}
-use Rattle.taps_framer.proofs.Bytes.{is_below, is_not_below, are_bytes-take, are_bytes-drop}
+use Rattle.taps_framer.specs.Sights.{IsBadPlace}
+use Rattle.taps_framer.proofs.Bytes.{are_bytes-take, are_bytes-drop}
 use Rattle.taps_framer.proofs.Prefixes.{append-nil}
 use Rattle.taps_framer.proofs.Laws.{holds_this}
 use Rattle.taps_framer.proofs.Sights.{holds_none, dead_by, bad_here}
 use Rattle.taps_frames.specs.declared.head.Head.{Head}
 use Rattle.taps_frames.specs.declared.head.Head.TheVariants.{Need, Bad, Whole}
-use Rattle.taps_frames.specs.Formats.{Format, headed, IsLength, IsBegun}
-use Rattle.taps_frames.specs.Heads.{IsHead, IsWholeHead, IsBadHead, seen, ReachesBody, body_behind}
-use Rattle.taps_frames.proofs.HeadedLaws.{HasHeads, spoken, spoken_length, viable_begun, viable_body}
+use Rattle.taps_frames.specs.Formats.{Format, headed, IsLength, IsBegun, HasNoHead}
+use Rattle.taps_frames.specs.Heads.{IsHead, IsWholeHead, ReachesBody, body_behind}
+use Rattle.taps_frames.specs.Scans.{HasHeads}
+use Rattle.taps_frames.proofs.HeadedLaws.{spoken, spoken_length, viable_begun, viable_body}
 
 module _ (f : Format) (i : ℕ) (heads : HasHeads f i) (lawful : IsLawful (headed f) i) where
   -- one head begins a list
@@ -40,9 +39,9 @@ module _ (f : Format) (i : ℕ) (heads : HasHeads f i) (lawful : IsLawful (heade
     viable_begun f i heads x g,
   )
 
-  pub bad_head : (x : List ℕ) (p : ℕ) → IsBadHead f i x p → (lives (headed f) i x ≡ false) × IsBadPlace (headed f) i x p
-  bad_head x p h = bad_here (headed f) i lawful x p h.inside (viable_begun f i heads (take p x) h.begun)
-      (dead_by (headed f) i (take (p + 1) x) (λ b y z s e. h.none (length b) y ((b ++ f.tail) ++ z) (spoken_length f b s) (e ∙ append_assoc (f.head i (length b)) (b ++ f.tail) z)))
+  -- bytes with which no head begins a list
+  pub dead_head : (x : List ℕ) → HasNoHead f i x → lives (headed f) i x ≡ false
+  dead_head x none = dead_by (headed f) i x (λ b y z s e. none (length b) y ((b ++ f.tail) ++ z) (spoken_length f b s) (e ∙ append_assoc (f.head i (length b)) (b ++ f.tail) z))
 
   -- a whole head stands before the rest
   module _ (x : List ℕ) (w n : ℕ) (a : are_bytes x ≡ true) (h : IsWholeHead f i x w n) where
@@ -97,18 +96,6 @@ module _ (f : Format) (i : ℕ) (heads : HasHeads f i) (lawful : IsLawful (heade
         let r : get_or (take (w + n + 1) x ++ y) (w + n) 0 ≡ get_or x (w + n) 0 =
         get_or_append_left (take (w + n + 1) x) y 0 (w + n) (omega (arith, k, length-take (w + n + 1) x)) ∙ get_or-take (w + n + 1) x (w + n) 0 (omega arith) in
         differs (sym r ∙ ap (λ (v : List ℕ). get_or v (w + n) 0) (u ∙ m) ∙ ap (λ (v : ℕ). get_or (j ++ t ∷ (ts ++ z)) v 0) (sym l) ∙ get_or-append_seam j t (ts ++ z) 0)))
-
-  -- what is seen of frames that have no tail
-  pub seen_is : f.tail ≡ [] → (x : List ℕ) → are_bytes x ≡ true → (h : Head) → IsHead f i x h → IsSight (headed f) i x (seen h (length x))
-  seen_is e x a Need k = begun_waits x k
-  seen_is e x a (Bad place) k = bad_head x place k
-  seen_is e x a (Whole w n) k = elim (cases_lt (length x - w) n) [
-    | inl m ↦ subst (λ (v : Bool). IsSight (headed f) i x (cond v sight.Need (sight.Whole (w + n)))) (sym (is_below _ _ m))
-        (body_waits x w n a k (omega arith) (omega arith))
-    | inr m ↦ subst (λ (v : Bool). IsSight (headed f) i x (cond v sight.Need (sight.Whole (w + n)))) (sym (is_not_below _ _ m))
-        (let r = body_whole x w n a k (drop n (drop w x)) m (ap (λ (v : List ℕ). v ++ drop n (drop w x)) (sym e)) in
-        (r.0, omega (arith, r.1, ap length e)))
-  ]
 
   -- the body of a whole frame stands behind the head
   pub opened : (x : List ℕ) (h : Head) → IsWholeFrame (headed f) i x → IsHead f i x h →

@@ -5,14 +5,9 @@ use Rattle.std.proofs.lemmas.Nat.{be_bytes_2}
 use Rattle.taps_framer.specs.Prefixes.{are_bytes}
 use Rattle.taps_framer.proofs.Bytes.{both, is_below, are_bytes-left}
 use Rattle.taps_frames.specs.Bodies.{pad}
-use Rattle.taps_framer.specs.Layers.{IsLawful, IsWholeFrame}
-use Rattle.taps_framer.specs.Sights.{IsSight}
-use Rattle.taps_frames.specs.declared.head.Head.{Head}
-use Rattle.taps_frames.specs.Heads.{IsHead, seen, ReachesBody, body_behind}
-use Rattle.taps_frames.proofs.HeadedLaws.{HasHeads, lawful}
-use Rattle.taps_frames.proofs.HeadedSights.{seen_is, opened}
+use Rattle.taps_frames.specs.Scans.{HasHeads, IsLawfulFormat, number_behind}
 use Rattle.taps_frames.specs.Formats.{IsBegun}
-use Rattle.taps_frames.specs.Len16.{len16, len16_format}
+use Rattle.taps_frames.specs.Len16.{len16_format}
 use Rattle.taps_frames.proofs.BodyLemmas.{length-pad, are_bytes-pad, pad-split, get_or-pad, byte_in}
 
 -- fewer than two bytes, filled up, are those of the number that they tell
@@ -42,12 +37,5 @@ len16_heads i = record {
   begins = len16_begun i [] refl (omega arith);
 }
 
-pub len16_lawful : (i : ℕ) → IsLawful len16 i
-len16_lawful i = lawful len16_format i (len16_heads i) (λ n h. let k = h.to in omega arith)
-
-pub len16_seen : (i : ℕ) (x : List ℕ) (h : Head) → are_bytes x ≡ true → IsHead len16_format i x h → IsSight len16 i x (seen h (length x))
-len16_seen i x h a k = seen_is len16_format i (len16_heads i) (len16_lawful i) refl x a h k
-
-pub len16_opened : (i : ℕ) (x : List ℕ) (h : Head) → IsWholeFrame len16 i x → IsHead len16_format i x h →
-    ReachesBody h (length x) × (body_behind h x ≡ len16.front i x)
-len16_opened i x h w k = opened len16_format i (len16_heads i) (len16_lawful i) x h w k
+pub len16_lawful : IsLawfulFormat len16_format (number_behind 0)
+len16_lawful = record { heads = len16_heads; bounded = λ i n h. let k = h.to in omega arith; one = omega arith; nothing = λ i. refl }

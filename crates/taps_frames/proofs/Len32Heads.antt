@@ -5,17 +5,13 @@ use Rattle.std.proofs.lemmas.List.{take_all}
 use Rattle.std.proofs.lemmas.Bool.{cases_lt}
 use Rattle.std.proofs.lemmas.Nat.{from_be_bytes-to_be_bytes_4}
 use Rattle.taps_framer.specs.Prefixes.{are_bytes}
-use Rattle.taps_framer.specs.Layers.{IsLawful, IsWholeFrame}
-use Rattle.taps_framer.specs.Sights.{IsSight}
 use Rattle.taps_framer.proofs.Bytes.{are_bytes-left, are_bytes-take}
-use Rattle.taps_frames.specs.declared.head.Head.{Head}
 use Rattle.taps_frames.specs.Bodies.{pad}
 use Rattle.taps_frames.specs.Formats.{IsBegun, HasNoHead}
-use Rattle.taps_frames.specs.Heads.{IsHead, IsBadHead, seen, ReachesBody, body_behind}
-use Rattle.taps_frames.specs.Len32.{len32, len32_format}
+use Rattle.taps_frames.specs.Heads.{IsBadHead}
+use Rattle.taps_frames.specs.Len32.{len32_format}
 use Rattle.taps_frames.proofs.BodyLemmas.{length-pad, byte_in}
-use Rattle.taps_frames.proofs.HeadedLaws.{HasHeads, lawful}
-use Rattle.taps_frames.proofs.HeadedSights.{seen_is, opened}
+use Rattle.taps_frames.specs.Scans.{HasHeads, IsLawfulFormat, number_behind}
 use Rattle.taps_frames.proofs.FourBytes.{four_filled, are_four, told_grows, first_1, first_2, first_3, first_4}
 
 pub len32_begun : (i : ℕ) (x : List ℕ) → are_bytes x ≡ true → length x < 4 → from_be_bytes w32 x ≤ 1048576 → IsBegun len32_format i x
@@ -76,12 +72,5 @@ len32_heads i = record {
   begins = len32_begun i [] refl (omega arith) (omega arith);
 }
 
-pub len32_lawful : (i : ℕ) → IsLawful len32 i
-len32_lawful i = lawful len32_format i (len32_heads i) (λ n h. let k = h.to in omega arith)
-
-pub len32_seen : (i : ℕ) (x : List ℕ) (h : Head) → are_bytes x ≡ true → IsHead len32_format i x h → IsSight len32 i x (seen h (length x))
-len32_seen i x h a k = seen_is len32_format i (len32_heads i) (len32_lawful i) refl x a h k
-
-pub len32_opened : (i : ℕ) (x : List ℕ) (h : Head) → IsWholeFrame len32 i x → IsHead len32_format i x h →
-    ReachesBody h (length x) × (body_behind h x ≡ len32.front i x)
-len32_opened i x h w k = opened len32_format i (len32_heads i) (len32_lawful i) x h w k
+pub len32_lawful : IsLawfulFormat len32_format (number_behind 0)
+len32_lawful = record { heads = len32_heads; bounded = λ i n h. let k = h.to in omega arith; one = omega arith; nothing = λ i. refl }

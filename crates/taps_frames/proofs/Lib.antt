@@ -1,6 +1,9 @@
 pub mod BodyLemmas
 pub mod HeadedLaws
 pub mod HeadedSights
+pub mod HeadedScans
+pub mod RunSights
+pub mod Rebuilt
 pub mod Len16Heads
 pub mod FourBytes
 pub mod Len32Heads

@@ -1,18 +1,20 @@
 -- Lines, and what a reader of them sees.
-use Rattle.std.proofs.Common.{◌≡◌, ℕ, suc, ◌+◌, ◌<◌, ◌≤◌, true, false, not, ◌==◌, List, [], ◌∷◌, ◌++◌, length, get_or, take, drop, refl, ap, sym, ◌∙◌, subst, arith, length-append, append_assoc, inl, inr, length-take, get_or-take}
-use Rattle.std.proofs.lemmas.List.{take_more, drop_more, take-append-drop, take-take}
+use Rattle.std.proofs.Common.{◌≡◌, ℕ, suc, ◌+◌, ◌-◌, ◌<◌, ◌≤◌, true, false, not, ◌==◌, List, [], ◌∷◌, ◌++◌, length, get_or, take, drop, refl, ap, sym, ◌∙◌, subst, arith, length-append, append_assoc, inl, inr, length-take, get_or-take}
+use Rattle.std.proofs.lemmas.List.{take-append-drop, take-take, take_all}
 use Rattle.std.proofs.lemmas.List.Sums.{take_while-cons}
 use Rattle.std.proofs.lemmas.List.Folds.{list_all-append}
 use Rattle.std.proofs.lemmas.Bool.{ne_eqb, eq-eqb}
 use Rattle.taps_framer.specs.Prefixes.{are_bytes}
-use Rattle.taps_framer.specs.Layers.{IsLawful, is_viable, holds_whole_frame, lives, first_frame}
-use Rattle.taps_framer.specs.Sights.{IsBadPlace}
-use Rattle.taps_framer.proofs.Bytes.{both, and-left, and-right, are_bytes-left, are_bytes-take}
+use Rattle.taps_framer.specs.declared.scan.Scan.{Scan}
+use Rattle.taps_framer.specs.Layers.{IsLawful, IsWholeFrame, is_viable, holds_whole_frame, lives}
+use Rattle.taps_framer.specs.Scans.{Represents}
+use Rattle.taps_framer.proofs.Bytes.{both, and-left, and-right, are_bytes-append, are_bytes-left, are_bytes-take}
 use Rattle.taps_framer.proofs.Prefixes.{append-nil, append-cancel, compared}
-use Rattle.taps_framer.proofs.Laws.{holds_this, viable_when}
-use Rattle.taps_framer.proofs.Sights.{holds_none, dead_by, bad_here}
+use Rattle.taps_framer.proofs.Laws.{frame_alone, viable_when}
+use Rattle.taps_framer.proofs.Sights.{holds_none, dead_by}
+use Rattle.taps_framer.proofs.Scans.{one_more}
 use Rattle.taps_frames.specs.Bodies.{is_body}
-use Rattle.taps_frames.specs.Line.{line, is_inner, is_one_line, before_end}
+use Rattle.taps_frames.specs.Line.{line, line_scan, IsLinePart, is_inner, is_one_line, before_end}
 use Rattle.taps_frames.proofs.BodyLemmas.{body_of, body_most, body_bytes}
 
 inner : (c : ℕ) → (c ≡ 10 → ⊥) → is_inner c ≡ true
@@ -102,32 +104,13 @@ no_end_before x i h n = no_end (take i x) (λ k m e.
     let l : k < i = omega (arith, m, length-take i x) in
     n k l (subst (λ (c : ℕ). (c == 10) ≡ true) (get_or-take i x k 0 l) e))
 
-ended : (x : List ℕ) (i : ℕ) → i < length x → get_or x i 0 ≡ 10 → x ≡ take i x ++ 10 ∷ drop (i + 1) x
-ended x i h e = sym (take-append-drop i x) ∙ ap (λ (w : List ℕ). take i x ++ w) (drop_more x i 0 h) ∙ ap (λ (v : ℕ). take i x ++ v ∷ drop (i + 1) x) e
-
-pub whole_seen : (k : ℕ) (x : List ℕ) (i : ℕ) → are_bytes x ≡ true → is_one_line (take i x) ≡ true → i ≤ 65535 → i < length x → get_or x i 0 ≡ 10 →
-    (holds_whole_frame line k x ≡ true) × (i + 1 ≡ length (first_frame line k x))
-whole_seen k x i a l m h e =
-    let n : length (take i x) ≡ i = omega (arith, length-take i x) in
-    let r = holds_this line k (lawful k) x (take i x) (drop (i + 1) x) (spoken (take i x) (omega (arith, n)) (are_bytes-take i x a) l)
-    (ended x i h e ∙ sym (append_assoc (take i x) (10 ∷ []) (drop (i + 1) x))) in
-    (r.0, omega (arith, n, ap length r.1, length-append (take i x) (10 ∷ [])))
-
 dead_long : (k : ℕ) (x : List ℕ) → is_one_line x ≡ true → 65535 < length x → lives line k x ≡ false
 dead_long k x l n = dead_by line k x (λ b y z h e.
     let f : x ++ before_end y ≡ b = sym (before-line x y l) ∙ ap before_end (e ∙ append_assoc b (10 ∷ []) z) ∙ before-frame b z (one b h) in
     let m = short b h in
     omega (arith, m, ap length f, length-append x (before_end y)))
 
-pub long_bad : (k : ℕ) (x : List ℕ) → are_bytes x ≡ true → 65535 < length x → is_one_line (take 65536 x) ≡ true →
-    (lives line k x ≡ false) × IsBadPlace line k x 65535
-long_bad k x a h l =
-    bad_here line k (lawful k) x 65535 h
-    (viable_line k (take 65535 x) (omega (arith, length-take 65535 x)) (are_bytes-take 65535 x a)
-    (line-left (take 65535 x) (get_or x 65535 0 ∷ []) (subst (λ (w : List ℕ). is_one_line w ≡ true) (take_more x 65535 0 h) l)))
-    (dead_long k (take 65536 x) l (omega (arith, length-take 65536 x)))
-
-pub waits : (k : ℕ) (x : List ℕ) → are_bytes x ≡ true → is_one_line x ≡ true → length x ≤ 65535 →
+waits : (k : ℕ) (x : List ℕ) → are_bytes x ≡ true → is_one_line x ≡ true → length x ≤ 65535 →
     (holds_whole_frame line k x ≡ false) × (is_viable line k x ≡ true)
 waits k x a l m = (
   holds_none line k x (λ b y s e.
@@ -136,18 +119,65 @@ waits k x a l m = (
   viable_line k x m a l,
 )
 
--- what holds of the first bytes holds of the whole
-pub within : (x front : List ℕ) (i : ℕ) → front ≡ take 65536 x → i ≤ length front → is_one_line (take i front) ≡ true →
-    (i ≤ length x) × (i ≤ 65536) × (is_one_line (take i x) ≡ true)
-within x front i e h l =
-    let n : length front ≡ length (take 65536 x) = ap length e in (
-      omega (arith, h, n, length-take 65536 x),
-      omega (arith, h, n, length-take 65536 x),
-      subst (λ (w : List ℕ). is_one_line w ≡ true) (ap (λ (w : List ℕ). take i w) e ∙ take-take i 65536 x (omega (arith, h, n, length-take 65536 x))) l,
-    )
+-- a scan of the length of a line so far represents it
+pub line_represents : (i : ℕ) (scan : Scan) (x : List ℕ) → IsLinePart x scan.length → Represents line line_scan i scan x
+line_represents i scan x p =
+    let s = p.small in
+    let c = p.counted in
+    let w = waits i x p.bytes p.one (omega (arith, s, c)) in
+    record { told = p; viable = w.1; unfinished = w.0 }
 
-pub end_within : (x front : List ℕ) (i : ℕ) → front ≡ take 65536 x → i < length x → i ≤ 65535 → (i < length front → get_or front i 0 ≡ 10) →
-    get_or x i 0 ≡ 10
-end_within x front i e h m f =
-    let n : length front ≡ length (take 65536 x) = ap length e in
-    sym (get_or-take 65536 x i 0 (omega arith)) ∙ ap (λ (w : List ℕ). get_or w i 0) (sym e) ∙ f (omega (arith, h, n, length-take 65536 x))
+pub no_line_yet : IsLinePart [] 0
+no_line_yet = record { counted = refl; small = omega arith; one = refl; bytes = refl }
+
+line-append : (b y : List ℕ) → is_one_line b ≡ true → is_one_line y ≡ true → is_one_line (b ++ y) ≡ true
+line-append b y h k = list_all-append is_inner b y ∙ both _ _ h k
+
+-- part of a line, and the bytes before a place of those that come next, where a look goes one byte past the longest body
+module _ (i : ℕ) (x bytes front : List ℕ) (n place : ℕ) (p : IsLinePart x n) (a : are_bytes bytes ≡ true)
+    (look : front ≡ take ((65535 - n) + 1) bytes) (within : place ≤ length front) (one : is_one_line (take place front) ≡ true) where
+  pub place_is : (place ≤ length bytes) × (place ≤ (65535 - n) + 1)
+  place_is =
+      let l : length front ≡ length (take ((65535 - n) + 1) bytes) = ap length look in
+      (omega (arith, within, l, length-take ((65535 - n) + 1) bytes), omega (arith, within, l, length-take ((65535 - n) + 1) bytes))
+
+  one_at : (q : ℕ) → q ≤ place → is_one_line (x ++ take q bytes) ≡ true
+  one_at q h =
+      let e : take place front ≡ take place bytes = ap (λ (w : List ℕ). take place w) look ∙ take-take place ((65535 - n) + 1) bytes place_is.1 in
+      let d : take place bytes ≡ take q bytes ++ drop q (take place bytes) =
+      sym (ap (λ (w : List ℕ). w ++ drop q (take place bytes)) (sym (take-take q place bytes h)) ∙ take-append-drop q (take place bytes)) in
+      line-append x (take q bytes) p.one (line-left (take q bytes) (drop q (take place bytes)) (subst (λ (w : List ℕ). is_one_line w ≡ true) (e ∙ d) one))
+
+  bytes_at : (q : ℕ) → are_bytes (x ++ take q bytes) ≡ true
+  bytes_at q = are_bytes-append x (take q bytes) p.bytes (are_bytes-take q bytes a)
+
+  length_at : (q : ℕ) → q ≤ length bytes → length (x ++ take q bytes) ≡ n + q
+  length_at q h = let c = p.counted in omega (arith, h, c, length-append x (take q bytes), length-take q bytes)
+
+  pub line_too_long : 65535 - n < place →
+      (65535 - n < length bytes) × (is_viable line i (x ++ take (65535 - n) bytes) ≡ true) × (lives line i (x ++ take ((65535 - n) + 1) bytes) ≡ false)
+  line_too_long h =
+      let s = p.small in
+      let w = place_is.0 in (
+        omega (arith, h, w),
+        viable_line i (x ++ take (65535 - n) bytes) (omega (arith, s, length_at (65535 - n) (omega (arith, h, w)))) (bytes_at (65535 - n)) (one_at (65535 - n) (omega arith)),
+        dead_long i (x ++ take ((65535 - n) + 1) bytes) (one_at ((65535 - n) + 1) (omega arith)) (omega (arith, s, length_at ((65535 - n) + 1) (omega (arith, h, w)))),
+      )
+
+  pub line_waits : place ≤ 65535 - n → place ≡ length bytes → IsLinePart (x ++ bytes) (n + place)
+  line_waits h e =
+      let t : take place bytes ≡ bytes = take_all place bytes (omega arith) in
+      let s = p.small in
+      subst (λ (w : List ℕ). IsLinePart (x ++ w) (n + place)) t
+      (record { counted = length_at place place_is.0; small = omega (arith, s, h); one = one_at place (omega arith); bytes = bytes_at place })
+
+  pub line_ends : place ≤ 65535 - n → place < length bytes → (place < length front → get_or front place 0 ≡ 10) → IsWholeFrame line i (x ++ take (place + 1) bytes)
+  line_ends h l ends =
+      let s = p.small in
+      let k : length front ≡ length (take ((65535 - n) + 1) bytes) = ap length look in
+      let c : get_or bytes place 0 ≡ 10 =
+      sym (get_or-take ((65535 - n) + 1) bytes place 0 (omega arith)) ∙ ap (λ (w : List ℕ). get_or w place 0) (sym look)
+      ∙ ends (omega (arith, h, l, k, length-take ((65535 - n) + 1) bytes)) in
+      frame_alone line i (lawful i) (x ++ take place bytes) (x ++ take (place + 1) bytes)
+      (spoken (x ++ take place bytes) (omega (arith, s, h, length_at place place_is.0)) (bytes_at place) (one_at place (omega arith)))
+      (sym (one_more x bytes place l) ∙ ap (λ (v : ℕ). (x ++ take place bytes) ++ v ∷ []) c)

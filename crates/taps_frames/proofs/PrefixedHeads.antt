@@ -4,7 +4,7 @@ use Rattle.std.proofs.lemmas.List.{take-append-drop, take_all, drop_at, drop_all
 use Rattle.taps_framer.proofs.Prefixes.{append-nil, append-cancel, compared}
 use Rattle.taps_frames.specs.Formats.{Format, IsLength, IsBegun, prefixed}
 use Rattle.taps_frames.specs.Heads.{IsWholeHead, IsBadHead}
-use Rattle.taps_frames.proofs.HeadedLaws.{HasHeads}
+use Rattle.taps_frames.specs.Scans.{HasHeads}
 
 drop_prefix : (p y : List ℕ) → drop (length p) (p ++ y) ≡ y
 drop_prefix p y = drop_at p y (length p) refl

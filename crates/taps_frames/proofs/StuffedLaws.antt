@@ -7,25 +7,9 @@ use Rattle.taps_framer.proofs.Prefixes.{append-nil}
 use Rattle.taps_framer.proofs.Laws.{viable_when}
 use Rattle.taps_frames.specs.Bodies.{is_body}
 use Rattle.std.proofs.lemmas.List.Sums.{count_by-le-length}
-use Rattle.taps_frames.specs.Stuffed.{stuffed, spelled, stuff, plain, is_special}
+use Rattle.taps_frames.specs.Stuffed.{stuffed, spelled, stuff, plain, is_special, part_of, begun_size, IsPart}
 use Rattle.taps_frames.proofs.BodyLemmas.{body_of, body_most, body_bytes}
 use Rattle.taps_frames.proofs.Spellings.{ending, escape, other, kind, spelled_other, spelled_ending, spelled_escape, plain_none, plain_half, plain-stuff, plain-frame, stuff-append, length-stuff}
-
--- the spelling of a body, and an escape byte where the next byte is begun
-abbrev pub part_of : Bool → List ℕ → List ℕ
-part_of true b = stuff b ++ 219 ∷ []
-part_of false b = stuff b
-
-abbrev pub begun_size : Bool → ℕ → ℕ
-begun_size true n = n + 1
-begun_size false n = n
-
--- the bytes are the beginning of a frame before its end byte, with n bytes of the body begun
-pub record IsPart (x : List ℕ) (half : Bool) (n : ℕ) : Type 0 where
-  pub body : List ℕ
-  pub begun : x ≡ part_of half body
-  pub size : n ≡ begun_size half (length body)
-  pub bytes : are_bytes body ≡ true
 
 viable_half : (i : ℕ) (x d : List ℕ) → x ≡ stuff d ++ 219 ∷ [] → are_bytes d ≡ true → length d + 1 ≤ 65535 → is_viable stuffed i x ≡ true
 viable_half i x d e a h =

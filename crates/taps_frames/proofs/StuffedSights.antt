@@ -1,68 +1,74 @@
--- What a reader of stuffed frames answers at each place.
-use Rattle.std.proofs.Common.{◌≡◌, ℕ, ◌+◌, ◌-◌, ◌<◌, ◌≤◌, Bool, true, false, List, [], ◌∷◌, ◌++◌, length, get_or, take, drop, refl, ap, sym, ◌∙◌, subst, arith, length-append, append_assoc, length-take, length-drop, get_or-take, get_or-drop, ◌⊎◌, inl, inr}
-use Rattle.std.proofs.lemmas.List.{take_more, drop_more, take-append-drop, take-take, take_all}
+-- What is seen as the bytes of a stuffed frame come.
+use Rattle.std.proofs.Common.{◌≡◌, ℕ, ◌+◌, ◌<◌, ◌≤◌, Bool, true, false, List, [], ◌∷◌, ◌++◌, length, get_or, take, drop, refl, ap, sym, ◌∙◌, subst, arith, length-append, append_assoc, length-take, length-drop, ◌⊎◌, inl, inr}
+use Rattle.std.proofs.lemmas.List.{take-take}
 use Rattle.std.proofs.Math.Seq.{take-add}
+use Rattle.taps_framer.specs.declared.scan.Scan.{Scan}
 use Rattle.taps_framer.specs.Prefixes.{are_bytes}
-use Rattle.taps_framer.specs.Layers.{is_viable, holds_whole_frame, lives, first_frame}
-use Rattle.taps_framer.specs.Sights.{IsBadPlace}
+use Rattle.taps_framer.specs.Layers.{IsWholeFrame, holds_whole_frame, lives}
+use Rattle.taps_framer.specs.Scans.{Represents}
 use Rattle.taps_framer.proofs.Bytes.{both, is_below, are_bytes-append, are_bytes-take, are_bytes-drop}
 use Rattle.taps_framer.proofs.Prefixes.{append-nil}
-use Rattle.taps_framer.proofs.Laws.{holds_this}
-use Rattle.taps_framer.proofs.Sights.{holds_none, dead_by, bad_here}
-use Rattle.taps_frames.specs.Stuffed.{stuffed, spelled, stuff, is_special, are_plain}
+use Rattle.taps_framer.proofs.Laws.{frame_alone}
+use Rattle.taps_framer.proofs.Sights.{holds_none, dead_by}
+use Rattle.taps_frames.specs.Stuffed.{stuffed, stuffed_scan, spelled, stuff, are_plain, IsPart, IsPlainRun}
 use Rattle.taps_frames.proofs.BodyLemmas.{body_of, body_most}
-use Rattle.taps_frames.proofs.Spellings.{spelled_ending, spelled_escape, stuff-append, stuff_plain, plain-left, plain_at, not_special, longer, behind_escape, lone_escape}
-use Rattle.taps_frames.proofs.StuffedLaws.{IsPart, lawful, viable_part}
+use Rattle.taps_frames.proofs.Spellings.{spelled_ending, spelled_escape, spelled_other, stuff-append, stuff_plain, longer, behind_escape, lone_escape}
+use Rattle.taps_frames.proofs.StuffedLaws.{lawful, viable_part}
 
-pub nothing_yet : (x : List ℕ) → IsPart (take 0 x) false 0
-nothing_yet x = record { body = []; begun = refl; size = refl; bytes = refl }
+holds_part : (k : ℕ) (x : List ℕ) (half : Bool) (n : ℕ) → IsPart x half n → holds_whole_frame stuffed k x ≡ false
+holds_part k x true n s = holds_none stuffed k x (λ b y h e.
+    let r = longer s.body b (219 ∷ []) y (sym s.begun ∙ e ∙ append_assoc (stuff b) (192 ∷ []) y) in
+    lone_escape r.rest y r.spelt)
+holds_part k x false n s = holds_none stuffed k x (λ b y h e.
+    let r = longer s.body b [] y (append-nil (stuff s.body) ∙ sym s.begun ∙ e ∙ append_assoc (stuff b) (192 ∷ []) y) in
+    omega (arith, ap length r.spelt, length-append (stuff r.rest) (192 ∷ y)))
 
--- the bytes up to and with the one at a place
-one_more : (x : List ℕ) (i c : ℕ) (t : List ℕ) → i < length x → get_or x i 0 ≡ c → take i x ≡ t → take (i + 1) x ≡ t ++ c ∷ []
-one_more x i c t h k e = take_more x i 0 h ∙ ap (λ (w : List ℕ). w ++ get_or x i 0 ∷ []) e ∙ ap (λ (v : ℕ). t ++ v ∷ []) k
+-- which part a scan represents, and a part by a scan
+pub part_represents : (k : ℕ) (scan : Scan) (x : List ℕ) → IsPart x false scan.length → scan.length ≤ 65535 → scan.phase ≡ 0 → Represents stuffed stuffed_scan k scan x
+part_represents k scan x p h e = record { told = (h, inl (e, p)); viable = viable_part k x false scan.length p h; unfinished = holds_part k x false scan.length p }
 
-pub opens : (x : List ℕ) (i n : ℕ) → IsPart (take i x) false n → i < length x → get_or x i 0 ≡ 219 → IsPart (take (i + 1) x) true (n + 1)
-opens x i n s h k = record {
-  body = s.body;
-  begun = one_more x i 219 (stuff s.body) h k s.begun;
-  size = ap (λ (v : ℕ). v + 1) s.size;
-  bytes = s.bytes;
-}
+pub half_represents : (k : ℕ) (scan : Scan) (x : List ℕ) → IsPart x true scan.length → scan.length ≤ 65535 → scan.phase ≡ 1 → Represents stuffed stuffed_scan k scan x
+half_represents k scan x p h e = record { told = (h, inr (e, p)); viable = viable_part k x true scan.length p h; unfinished = holds_part k x true scan.length p }
 
-closed : (x : List ℕ) (i n c v : ℕ) → IsPart (take i x) true n → i < length x → get_or x i 0 ≡ c → spelled v ≡ 219 ∷ c ∷ [] → v < 256 →
-    IsPart (take (i + 1) x) false n
-closed x i n c v s h k e m = record {
+pub is_part : (k : ℕ) (scan : Scan) (x : List ℕ) → Represents stuffed stuffed_scan k scan x → (scan.phase ≡ 1 → ⊥) → IsPart x false scan.length
+is_part k scan x r n = elim r.told.1 [ inl w ↦ w.1 | inr w ↦ absurd (n w.0) ]
+
+pub is_half : (k : ℕ) (scan : Scan) (x : List ℕ) → Represents stuffed stuffed_scan k scan x → scan.phase ≡ 1 → IsPart x true scan.length
+is_half k scan x r e = elim r.told.1 [ inl w ↦ (let z = w.0 in absurd (omega (arith, z, e))) | inr w ↦ w.1 ]
+
+pub nothing_yet : IsPart [] false 0
+nothing_yet = record { body = []; begun = refl; size = refl; bytes = refl }
+
+-- one byte more
+pub opens : (x : List ℕ) (n : ℕ) → IsPart x false n → IsPart (x ++ 219 ∷ []) true (n + 1)
+opens x n s = record { body = s.body; begun = ap (λ (w : List ℕ). w ++ 219 ∷ []) s.begun; size = ap (λ (v : ℕ). v + 1) s.size; bytes = s.bytes }
+
+closed : (x : List ℕ) (n c v : ℕ) → IsPart x true n → spelled v ≡ 219 ∷ c ∷ [] → v < 256 → IsPart (x ++ c ∷ []) false n
+closed x n c v s e m = record {
   body = s.body ++ v ∷ [];
-  begun = one_more x i c (stuff s.body ++ 219 ∷ []) h k s.begun ∙ append_assoc (stuff s.body) (219 ∷ []) (c ∷ [])
+  begun = ap (λ (w : List ℕ). w ++ c ∷ []) s.begun ∙ append_assoc (stuff s.body) (219 ∷ []) (c ∷ [])
       ∙ ap (λ (w : List ℕ). stuff s.body ++ (w ++ [])) (sym e) ∙ sym (stuff-append s.body (v ∷ []));
   size = omega (arith, s.size, length-append s.body (v ∷ []));
   bytes = are_bytes-append s.body (v ∷ []) s.bytes (both _ _ (is_below v 256 m) refl);
 }
 
-pub closes : (x : List ℕ) (i n : ℕ) → IsPart (take i x) true n → i < length x → (get_or x i 0 ≡ 220) ⊎ (get_or x i 0 ≡ 221) →
-    IsPart (take (i + 1) x) false n
-closes x i n s h k = elim k [
-  | inl e ↦ closed x i n 220 192 s h e spelled_ending (omega arith)
-  | inr e ↦ closed x i n 221 219 s h e spelled_escape (omega arith)
+pub closes : (x : List ℕ) (n c : ℕ) → IsPart x true n → (c ≡ 220) ⊎ (c ≡ 221) → IsPart (x ++ c ∷ []) false n
+closes x n c s k = elim k [
+  | inl e ↦ closed x n c 192 s (spelled_ending ∙ ap (λ (v : ℕ). 219 ∷ v ∷ []) (sym e)) (omega arith)
+  | inr e ↦ closed x n c 219 s (spelled_escape ∙ ap (λ (v : ℕ). 219 ∷ v ∷ []) (sym e)) (omega arith)
 ]
 
--- an escape byte and the one behind it
-pub pair : (x : List ℕ) (i n j m : ℕ) → IsPart (take i x) false n → i + 1 < length x → get_or x i 0 ≡ 219 →
-    (get_or x (i + 1) 0 ≡ 220) ⊎ (get_or x (i + 1) 0 ≡ 221) → j ≡ i + 2 → m ≡ n + 1 → IsPart (take j x) false m
-pair x i n j m s h k e f g =
-    let p : IsPart (take (i + 1 + 1) x) false (n + 1) = closes x (i + 1) (n + 1) (opens x i n s (omega arith) k) h e in
-    let q : i + 1 + 1 ≡ j = omega arith in
-    subst (λ (v : ℕ). IsPart (take j x) false v) (sym g) (subst (λ (v : ℕ). IsPart (take v x) false (n + 1)) q p)
+pub one_read : (x : List ℕ) (n c : ℕ) → IsPart x false n → c < 256 → (c ≡ 192 → ⊥) → (c ≡ 219 → ⊥) → IsPart (x ++ c ∷ []) false (n + 1)
+one_read x n c s m p q = record {
+  body = s.body ++ c ∷ [];
+  begun = ap (λ (w : List ℕ). w ++ c ∷ []) s.begun ∙ ap (λ (w : List ℕ). stuff s.body ++ (w ++ [])) (sym (spelled_other c p q)) ∙ sym (stuff-append s.body (c ∷ []));
+  size = omega (arith, s.size, length-append s.body (c ∷ []));
+  bytes = are_bytes-append s.body (c ∷ []) s.bytes (both _ _ (is_below c 256 m) refl);
+}
 
-pub whole_seen : (k : ℕ) (x : List ℕ) (i n : ℕ) → IsPart (take i x) false n → n ≤ 65535 → i < length x → get_or x i 0 ≡ 192 →
-    (holds_whole_frame stuffed k x ≡ true) × (i + 1 ≡ length (first_frame stuffed k x))
-whole_seen k x i n s m h c =
-    let b : List ℕ = s.body in
-    let e : x ≡ (stuff b ++ 192 ∷ []) ++ drop (i + 1) x =
-    sym (take-append-drop i x) ∙ ap (λ (w : List ℕ). take i x ++ w) (drop_more x i 0 h) ∙ ap (λ (v : ℕ). take i x ++ v ∷ drop (i + 1) x) c
-    ∙ ap (λ (w : List ℕ). w ++ 192 ∷ drop (i + 1) x) s.begun ∙ sym (append_assoc (stuff b) (192 ∷ []) (drop (i + 1) x)) in
-    let r = holds_this stuffed k (lawful k) x b (drop (i + 1) x) (body_of 0 65535 b (omega arith) (omega (arith, m, s.size)) s.bytes) e in
-    (r.0, omega (arith, ap length r.1, length-append (stuff b) (192 ∷ []), ap length s.begun, length-take i x))
+pub whole_seen : (k : ℕ) (x : List ℕ) (n : ℕ) → IsPart x false n → n ≤ 65535 → IsWholeFrame stuffed k (x ++ 192 ∷ [])
+whole_seen k x n s h = frame_alone stuffed k (lawful k) s.body (x ++ 192 ∷ []) (body_of 0 65535 s.body (omega arith) (omega (arith, h, s.size)) s.bytes)
+    (ap (λ (w : List ℕ). w ++ 192 ∷ []) s.begun)
 
 no_more : (t : List ℕ) (c : ℕ) (y z : List ℕ) → length t ≡ 0 → c ∷ y ≡ stuff t ++ 192 ∷ z → c ≡ 192
 no_more [] c y z n e = ap (λ (w : List ℕ). get_or w 0 0) e
@@ -77,10 +83,8 @@ dead_full k x d c e n not = dead_by stuffed k x (λ b y z h f.
     not (no_more r.rest c y z (omega (arith, n, l, ap length r.split, length-append d r.rest)) r.spelt))
 
 -- a byte of the body where there is no room for one
-pub full_bad : (k : ℕ) (x : List ℕ) (i n : ℕ) → IsPart (take i x) false n → n ≡ 65535 → i < length x → (get_or x i 0 ≡ 192 → ⊥) →
-    (lives stuffed k x ≡ false) × IsBadPlace stuffed k x i
-full_bad k x i n s m h c = bad_here stuffed k (lawful k) x i h (viable_part k (take i x) false n s (omega arith))
-    (dead_full k (take (i + 1) x) s.body (get_or x i 0) (one_more x i (get_or x i 0) (stuff s.body) h refl s.begun) (omega (arith, m, s.size)) c)
+pub full_bad : (k : ℕ) (x : List ℕ) (n c : ℕ) → IsPart x false n → n ≡ 65535 → (c ≡ 192 → ⊥) → lives stuffed k (x ++ c ∷ []) ≡ false
+full_bad k x n c s m not = dead_full k (x ++ c ∷ []) s.body c (ap (λ (w : List ℕ). w ++ c ∷ []) s.begun) (omega (arith, m, s.size)) not
 
 dead_escape : (k : ℕ) (x d : List ℕ) (c : ℕ) → x ≡ (stuff d ++ 219 ∷ []) ++ c ∷ [] → (c ≡ 220 → ⊥) → (c ≡ 221 → ⊥) → lives stuffed k x ≡ false
 dead_escape k x d c e p q = dead_by stuffed k x (λ b y z h f.
@@ -91,67 +95,50 @@ dead_escape k x d c e p q = dead_by stuffed k x (λ b y z h f.
     elim (behind_escape r.rest c y z r.spelt) [ inl i ↦ p i | inr i ↦ q i ])
 
 -- another byte behind an escape byte
-pub escape_bad : (k : ℕ) (x : List ℕ) (i n : ℕ) → IsPart (take i x) false n → n < 65535 → i + 1 < length x → get_or x i 0 ≡ 219 →
-    (get_or x (i + 1) 0 ≡ 220 → ⊥) → (get_or x (i + 1) 0 ≡ 221 → ⊥) →
-    (lives stuffed k x ≡ false) × IsBadPlace stuffed k x (i + 1)
-escape_bad k x i n t m h e p q =
-    let s : IsPart (take (i + 1) x) true (n + 1) = opens x i n t (omega arith) e in
-    bad_here stuffed k (lawful k) x (i + 1) h (viable_part k (take (i + 1) x) true (n + 1) s (omega arith))
-    (dead_escape k (take (i + 1 + 1) x) s.body (get_or x (i + 1) 0) (one_more x (i + 1) (get_or x (i + 1) 0) (stuff s.body ++ 219 ∷ []) h refl s.begun) p q)
-
-holds_part : (k : ℕ) (x : List ℕ) (half : Bool) (n : ℕ) → IsPart x half n → holds_whole_frame stuffed k x ≡ false
-holds_part k x true n s = holds_none stuffed k x (λ b y h e.
-    let r = longer s.body b (219 ∷ []) y (sym s.begun ∙ e ∙ append_assoc (stuff b) (192 ∷ []) y) in
-    lone_escape r.rest y r.spelt)
-holds_part k x false n s = holds_none stuffed k x (λ b y h e.
-    let r = longer s.body b [] y (append-nil (stuff s.body) ∙ sym s.begun ∙ e ∙ append_assoc (stuff b) (192 ∷ []) y) in
-    omega (arith, ap length r.spelt, length-append (stuff r.rest) (192 ∷ y)))
-
-pub waits : (k : ℕ) (x : List ℕ) (i : ℕ) (half : Bool) (n : ℕ) → IsPart (take i x) half n → n ≤ 65535 → length x ≤ i →
-    (holds_whole_frame stuffed k x ≡ false) × (is_viable stuffed k x ≡ true)
-waits k x i half n s m h =
-    let t : IsPart x half n = subst (λ (w : List ℕ). IsPart w half n) (take_all i x h) s in
-    (holds_part k x half n t, viable_part k x half n t m)
+pub escape_bad : (k : ℕ) (x : List ℕ) (n c : ℕ) → IsPart x true n → (c ≡ 220 → ⊥) → (c ≡ 221 → ⊥) → lives stuffed k (x ++ c ∷ []) ≡ false
+escape_bad k x n c s p q = dead_escape k (x ++ c ∷ []) s.body c (ap (λ (w : List ℕ). w ++ c ∷ []) s.begun) p q
 
 -- a run of bytes that are spelled by themselves
-pub run_read : (x : List ℕ) (i n r : ℕ) → IsPart (take i x) false n → are_bytes x ≡ true → i + r ≤ length x → are_plain (take r (drop i x)) ≡ true →
-    IsPart (take (i + r) x) false (n + r)
-run_read x i n r s a h p =
-    let d : List ℕ = take r (drop i x) in
-    record {
-      body = s.body ++ d;
-      begun = take-add i r x ∙ ap (λ (w : List ℕ). w ++ d) s.begun ∙ ap (λ (w : List ℕ). stuff s.body ++ w) (sym (stuff_plain d p)) ∙ sym (stuff-append s.body d);
-      size = omega (arith, h, s.size, length-append s.body d, length-take r (drop i x), length-drop i x);
-      bytes = are_bytes-append s.body d s.bytes (are_bytes-take r (drop i x) (are_bytes-drop i x a));
-    }
+run_read : (x r : List ℕ) (n : ℕ) → IsPart x false n → are_bytes r ≡ true → are_plain r ≡ true → IsPart (x ++ r) false (n + length r)
+run_read x r n s a p = record {
+  body = s.body ++ r;
+  begun = ap (λ (w : List ℕ). w ++ r) s.begun ∙ ap (λ (w : List ℕ). stuff s.body ++ w) (sym (stuff_plain r p)) ∙ sym (stuff-append s.body r);
+  size = omega (arith, s.size, length-append s.body r);
+  bytes = are_bytes-append s.body r s.bytes a;
+}
 
--- one with more bytes than there is room for
-pub run_bad : (k : ℕ) (x : List ℕ) (i n r : ℕ) → IsPart (take i x) false n → are_bytes x ≡ true → n ≤ 65535 → i + r ≤ length x →
-    are_plain (take r (drop i x)) ≡ true → 65535 - n < r →
-    (lives stuffed k x ≡ false) × IsBadPlace stuffed k x (i + (65535 - n))
-run_bad k x i n r s a small within p h =
-    let q : ℕ = 65535 - n in
-    let u : q + (r - q) ≡ r = omega arith in
-    let d : take r (drop i x) ≡ take q (drop i x) ++ take (r - q) (drop q (drop i x)) =
-    ap (λ (v : ℕ). take v (drop i x)) (sym u) ∙ take-add q (r - q) (drop i x) in
-    let c : get_or (take r (drop i x)) q 0 ≡ get_or x (i + q) 0 = get_or-take r (drop i x) q 0 h ∙ get_or-drop i x q 0 in
-    let l : q < length (take r (drop i x)) = omega (arith, h, within, length-take r (drop i x), length-drop i x) in
-    let t : are_plain (take q (drop i x)) ≡ true =
-    plain-left (take q (drop i x)) (take (r - q) (drop q (drop i x))) (subst (λ (w : List ℕ). are_plain w ≡ true) d p) in
-    full_bad k x (i + q) (n + q) (run_read x i n q s a (omega (arith, h, within)) t) (omega arith) (omega (arith, h, within))
-    (λ z. (not_special (get_or (take r (drop i x)) q 0) (plain_at (take r (drop i x)) q p l)).0 (c ∙ z))
+pub run_represents : (k : ℕ) (scan : Scan) (x next : List ℕ) (r : ℕ) → IsPlainRun scan next r → are_bytes next ≡ true → Represents stuffed stuffed_scan k scan x →
+    Represents stuffed stuffed_scan k (record { phase = scan.phase; length = scan.length + r; rest = 0 }) (x ++ take r next)
+run_represents k scan x next r p a h = elim h.told.1 [
+  | inl w ↦ part_represents k (record { phase = scan.phase; length = scan.length + r; rest = 0 }) (x ++ take r next)
+      (subst (λ (v : ℕ). IsPart (x ++ take r next) false (scan.length + v)) (let l = p.within in omega (arith, l, length-take r next))
+      (run_read x (take r next) scan.length w.1 (are_bytes-take r next a) p.plain)) p.room w.0
+  | inr w ↦ (let z : r ≡ 0 = p.none_escaped w.0 in
+      let e : x ≡ x ++ take r next = sym (append-nil x) ∙ ap (λ (v : ℕ). x ++ take v next) (sym z) in
+      let f : scan.length ≡ scan.length + r = omega arith in
+      half_represents k (record { phase = scan.phase; length = scan.length + r; rest = 0 }) (x ++ take r next)
+      (subst (λ (v : ℕ). IsPart (x ++ take r next) true v) f (subst (λ (v : List ℕ). IsPart v true scan.length) e w.1)) p.room w.0)
+]
 
--- a look at the bytes from a place on, no further than one byte more than there is room for
-module _ (x front : List ℕ) (i room r : ℕ) (e : front ≡ take (room + 1) (drop i x)) (within : r ≤ length front) where
-  pub look_within : i ≤ length x → i + r ≤ length x
-  look_within h = omega (arith, h, within, ap length e, length-take (room + 1) (drop i x), length-drop i x)
+-- a look at the next bytes, at no more than there is room for
+pub look_plain : (next front : List ℕ) (m r : ℕ) → front ≡ take m next → r ≤ length front → are_plain (take r front) ≡ true →
+    (r ≤ length next) × (r ≤ m) × (are_plain (take r next) ≡ true)
+look_plain next front m r e h p =
+    let l : length front ≡ length (take m next) = ap length e in
+    let k : r ≤ m = omega (arith, h, l, length-take m next) in (
+      omega (arith, h, l, length-take m next),
+      k,
+      subst (λ (w : List ℕ). are_plain w ≡ true) (ap (λ (w : List ℕ). take r w) e ∙ take-take r m next k) p,
+    )
 
-  pub look_plain : are_plain (take r front) ≡ true → are_plain (take r (drop i x)) ≡ true
-  look_plain p = subst (λ (w : List ℕ). are_plain w ≡ true)
-      (ap (λ (w : List ℕ). take r w) e ∙ take-take r (room + 1) (drop i x) (omega (arith, within, ap length e, length-take (room + 1) (drop i x)))) p
+-- the run from a place on
+pub run_within : (scan : Scan) (bytes : List ℕ) (at r : ℕ) → IsPlainRun scan (drop at bytes) r → at ≤ length bytes → at + r ≤ length bytes
+run_within scan bytes at r p h = let w = p.within in omega (arith, w, h, length-drop at bytes)
 
-  pub look_stops : (r < length front → is_special (get_or front r 0) ≡ true) → i + r < length x → r ≤ room → is_special (get_or x (i + r) 0) ≡ true
-  look_stops stops h k =
-      let c : get_or front r 0 ≡ get_or x (i + r) 0 =
-      ap (λ (w : List ℕ). get_or w r 0) e ∙ get_or-take (room + 1) (drop i x) r 0 (omega arith) ∙ get_or-drop i x r 0 in
-      subst (λ (v : ℕ). is_special v ≡ true) c (stops (omega (arith, h, k, ap length e, length-take (room + 1) (drop i x), length-drop i x)))
+pub behind_run : (k : ℕ) (scan : Scan) (x bytes : List ℕ) (at r : ℕ) → IsPlainRun scan (drop at bytes) r → are_bytes bytes ≡ true →
+    Represents stuffed stuffed_scan k scan (x ++ take at bytes) →
+    Represents stuffed stuffed_scan k (record { phase = scan.phase; length = scan.length + r; rest = 0 }) (x ++ take (at + r) bytes)
+behind_run k scan x bytes at r p a h =
+    subst (λ (w : List ℕ). Represents stuffed stuffed_scan k (record { phase = scan.phase; length = scan.length + r; rest = 0 }) w)
+    (append_assoc x (take at bytes) (take r (drop at bytes)) ∙ ap (λ (w : List ℕ). x ++ w) (sym (take-add at r bytes)))
+    (run_represents k scan (x ++ take at bytes) (drop at bytes) r p (are_bytes-drop at bytes a) h)

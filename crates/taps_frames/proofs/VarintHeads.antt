@@ -5,17 +5,12 @@ use Rattle.std.proofs.lemmas.Bool.{cases_lt}
 use Rattle.std.proofs.lemmas.List.{get_or_append_left}
 use Rattle.std.proofs.lemmas.Nat.{from_be_bytes-to_be_bytes_4}
 use Rattle.taps_framer.specs.Prefixes.{are_bytes}
-use Rattle.taps_framer.specs.Layers.{IsLawful, IsWholeFrame}
-use Rattle.taps_framer.specs.Sights.{IsSight}
 use Rattle.taps_framer.proofs.Bytes.{are_bytes-left}
-use Rattle.taps_frames.specs.declared.head.Head.{Head}
 use Rattle.taps_frames.specs.Bodies.{pad}
 use Rattle.taps_frames.specs.Formats.{IsBegun}
-use Rattle.taps_frames.specs.Heads.{IsHead, seen, ReachesBody, body_behind}
-use Rattle.taps_frames.specs.Varint.{varint, varint_format, shortest, least_number, told_width}
+use Rattle.taps_frames.specs.Varint.{varint_format, shortest, least_number, told_width}
 use Rattle.taps_frames.proofs.BodyLemmas.{length-pad, byte_in}
-use Rattle.taps_frames.proofs.HeadedLaws.{HasHeads, lawful}
-use Rattle.taps_frames.proofs.HeadedSights.{seen_is, opened}
+use Rattle.taps_frames.specs.Scans.{HasHeads, IsLawfulFormat, number_behind}
 use Rattle.taps_frames.proofs.FourBytes.{four_filled, told_grows}
 use Rattle.taps_frames.proofs.VarintForms.{one, two, four, form, short_one, short_two, short_four, least_one, least_two, least_four, width_two, width_four, told_is, width_is, length-shortest, are_shortest}
 
@@ -111,7 +106,7 @@ begun_of i n (p ∷ x) z h e o =
     none [] h = refl
     none (q ∷ x) h = absurd (omega arith)
 
-varint_heads : (i : ℕ) → HasHeads varint_format i
+pub varint_heads : (i : ℕ) → HasHeads varint_format i
 varint_heads i = record {
   some = λ n h. (length-shortest n).0;
   told_is = λ n y h. told_is n y h.to;
@@ -120,12 +115,5 @@ varint_heads i = record {
   begins = begun_none i;
 }
 
-pub varint_lawful : (i : ℕ) → IsLawful varint i
-varint_lawful i = lawful varint_format i (varint_heads i) (λ n h. let k = h.to in let s = (length-shortest n).1 in omega (arith, k, s))
-
-pub varint_seen : (i : ℕ) (x : List ℕ) (h : Head) → are_bytes x ≡ true → IsHead varint_format i x h → IsSight varint i x (seen h (length x))
-varint_seen i x h a k = seen_is varint_format i (varint_heads i) (varint_lawful i) refl x a h k
-
-pub varint_opened : (i : ℕ) (x : List ℕ) (h : Head) → IsWholeFrame varint i x → IsHead varint_format i x h →
-    ReachesBody h (length x) × (body_behind h x ≡ varint.front i x)
-varint_opened i x h w k = opened varint_format i (varint_heads i) (varint_lawful i) x h w k
+pub varint_lawful : IsLawfulFormat varint_format (number_behind 0)
+varint_lawful = record { heads = varint_heads; bounded = λ i n h. let k = h.to in let s = (length-shortest n).1 in omega (arith, k, s); one = omega arith; nothing = λ i. refl }

@@ -15,6 +15,10 @@ leading_digits x = take_while is_ascii_digit x
 unfoldable pub told_size : ℕ → List ℕ → ℕ
 told_size least x = max least (digits_value 10 (leading_digits x))
 
+-- the number that bytes write as digits in decimal
+abbrev pub written_number : ℕ → List ℕ → ℕ
+written_number i x = digits_value 10 x
+
 -- heads of a length from the least on and a separator
 abbrev pub decimal_format : List ℕ → ℕ → ℕ → List ℕ → Format
 decimal_format name least separator tail = record {

@@ -1,9 +1,10 @@
 -- What a reader of heads answers, and what follows from it.
-use Rattle.std.specs.Prelude.{◌≡◌, ℕ, ◌+◌, ◌-◌, ◌<◌, ◌≤◌, nat_lt, cond, ◌^◌, List, [], ◌++◌, length, take, drop}
-use Rattle.taps_framer.specs.declared.sight.Sight.{Sight}
-use Rattle.taps_framer.specs.declared.sight.Sight.TheVariants as sight
+use Rattle.std.specs.Prelude.{◌≡◌, ℕ, ◌+◌, ◌<◌, ◌≤◌, ◌^◌, List, [], ◌++◌, length, take, drop}
+use Rattle.std.specs.Int.{w32, from_be_bytes}
 use Rattle.taps_frames.specs.declared.head.Head.{Head}
 use Rattle.taps_frames.specs.declared.head.Head.TheVariants.{Need, Bad, Whole}
+use Rattle.taps_frames.specs.declared.head.Grown.{Grown}
+use Rattle.taps_frames.specs.declared.head.Grown.TheVariants as grown
 use Rattle.taps_frames.specs.Formats.{Format, IsLength, IsBegun, HasNoHead, prefixed}
 
 -- the bytes begin with the head of a length
@@ -24,11 +25,21 @@ IsHead f i x Need = IsBegun f i x
 IsHead f i x (Bad place) = IsBadHead f i x place
 IsHead f i x (Whole width size) = IsWholeHead f i x width size
 
--- what is seen at the start of so many bytes that begin so, where the frame has no tail
-abbrev pub seen : Head → ℕ → Sight
-seen Need count = sight.Need
-seen (Bad place) count = sight.Bad place
-seen (Whole width size) count = cond (nat_lt (count - width) size) sight.Need (sight.Whole (width + size))
+-- the bytes are one head and no more, and it tells this size
+abbrev pub IsOneHead : Format → ℕ → List ℕ → ℕ → Type 0
+IsOneHead f i x size = IsWholeHead f i x (length x) size
+
+-- what is answered of bytes that are a head so far is so, where bytes make a number
+abbrev pub IsGrown : Format → (ℕ → List ℕ → ℕ) → ℕ → List ℕ → Grown → Type 0
+IsGrown f number i x (grown.Need value) = IsBegun f i x × (number i x ≡ value)
+IsGrown f number i x grown.Bad = HasNoHead f i x
+IsGrown f number i x (grown.Whole size) = IsOneHead f i x size
+
+-- the same answer without a place and a width, where these bytes follow the prefix
+abbrev pub grown_of : Head → List ℕ → Grown
+grown_of Need x = grown.Need (from_be_bytes w32 x)
+grown_of (Bad place) x = grown.Bad
+grown_of (Whole width size) x = grown.Whole size
 
 -- so many bytes reach to the end of the body
 abbrev pub ReachesBody : Head → ℕ → Type 0

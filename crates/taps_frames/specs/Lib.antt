@@ -1,6 +1,8 @@
 pub mod Bodies
 pub mod Formats
 pub mod Heads
+pub mod Scans
+pub mod Runs
 pub mod Len16
 pub mod Len32
 pub mod Tag

@@ -1,6 +1,8 @@
 -- A body without a line's end, and the end (this project's own).
-use Rattle.std.specs.Prelude.{ℕ, Bool, not, ◌&&◌, ◌==◌, List, [], ◌∷◌, ◌++◌, codes}
+use Rattle.std.specs.Prelude.{◌≡◌, ℕ, ◌≤◌, Bool, true, not, ◌&&◌, ◌==◌, List, [], ◌∷◌, ◌++◌, length, codes}
 use Rattle.std.specs.List.{list_all, take_while}
+use Rattle.taps_framer.specs.declared.scan.Scan.{Scan}
+use Rattle.taps_framer.specs.Prefixes.{are_bytes}
 use Rattle.taps_framer.specs.Layers.{Layer}
 use Rattle.taps_frames.specs.Bodies.{is_body}
 
@@ -25,3 +27,14 @@ line = record {
   front = λ _ x. before_end x;
   completion = λ _ x. before_end x;
 }
+
+-- so many bytes of a line came, at most as many as a body has, and none of them ends it
+pub record IsLinePart (x : List ℕ) (n : ℕ) : Type 0 where
+  pub counted : length x ≡ n
+  pub small : n ≤ 65535
+  pub one : is_one_line x ≡ true
+  pub bytes : are_bytes x ≡ true
+
+-- what a scan of a line represents
+abbrev pub line_scan : ℕ → Scan → List ℕ → Type 0
+line_scan i scan x = IsLinePart x scan.length

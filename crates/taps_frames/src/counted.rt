@@ -1,17 +1,42 @@
-ghost use Rattle.taps_frames.specs.Counted.{counted};
+ghost use Rattle.taps_frames.specs.Decimals.{written_number};
+ghost use Rattle.taps_frames.specs.Counted.{counted, counted_format};
+ghost use Rattle.taps_frames.specs.Scans.{headed_scan};
 
-use crate::decimal::{MOST, head_in, write_counted};
-use crate::head::{body_of, sight_of};
+use crate::decimal::{self, MOST, digit_step, write_counted};
+use crate::head::{Grown, Head};
+use crate::headed::{self, Headed};
 use crate::room::is_of_size;
 use taps_base::NoMemory;
-use taps_framer::{Framer, Sight};
+use taps_framer::{Framer, Run, Scan, Seen, Sight};
 
 /// The length in decimal, a space, and a body that is not empty (RFC 6587 octet counting).
 #[derive(Clone, Copy, Debug)]
 pub struct Counted;
 
+impl Headed for Counted {
+    ghost format = { λ _. counted_format };
+
+    ghost number = { λ _. written_number };
+
+    fn head_in(&self, _index: u64, buffer: &[u8]) -> Head {
+        decimal::head_in(buffer, 1, b' ')
+    }
+
+    fn head_with(&self, _index: u64, count: u64, value: u64, byte: u8) -> Grown {
+        digit_step(1, b' ', count, value, byte)
+    }
+
+    fn tail(&self) -> Option<u8> {
+        None
+    }
+
+    fn vouch_for_heads(&self) {}
+}
+
 impl Framer for Counted {
     ghost layer = { λ _. counted };
+
+    ghost scans = { λ _. headed_scan counted_format written_number };
 
     fn name(&self) -> &str {
         "counted"
@@ -25,14 +50,27 @@ impl Framer for Counted {
         write_counted(b' ', body, &[], out)
     }
 
-    fn read(&self, _index: u64, buffer: &[u8]) -> Sight {
-        sight_of(head_in(buffer, 1, b' '), buffer.len())
+    fn start(&self, index: u64) -> Scan {
+        headed::start(self, index)
     }
 
-    fn unwrap(&self, _index: u64, frame: &[u8], out: &mut Vec<u8>) -> Result<(), NoMemory> {
-        out.extend_from_slice(body_of(head_in(frame, 1, b' '), frame))?;
-        Ok(())
+    fn step(&self, index: u64, scan: Scan, byte: u8) -> Seen {
+        headed::step(self, index, scan, byte)
     }
 
-    fn vouch(&self, _index: u64) {}
+    fn advance(&self, index: u64, scan: Scan, bytes: &[u8]) -> Run {
+        headed::advance(self, index, scan, bytes)
+    }
+
+    fn read(&self, index: u64, buffer: &[u8]) -> Sight {
+        headed::read(self, index, buffer)
+    }
+
+    fn unwrap(&self, index: u64, frame: &[u8], out: &mut Vec<u8>) -> Result<(), NoMemory> {
+        headed::unwrap(self, index, frame, out)
+    }
+
+    fn vouch(&self, _index: u64) {
+        headed::vouch(self);
+    }
 }

@@ -1,12 +1,14 @@
 ghost use Rattle.std.specs.Prelude.{◌≡◌, ℕ, ◌<◌};
 ghost use Rattle.std.specs.Int.{w32, from_be_bytes};
-ghost use Rattle.taps_frames.specs.Heads.{IsHead, IsBadHead};
+ghost use Rattle.taps_frames.specs.Heads.{IsBadHead};
+ghost use Rattle.taps_frames.specs.Scans.{headed_scan, number_behind};
 ghost use Rattle.taps_frames.specs.Len32.{len32, len32_format};
 
-use crate::head::{Head, body_of, sight_of};
-use crate::room::{is_of_size, write_parts};
+use crate::head::{Grown, Head, grown_by, number_in};
+use crate::headed::{self, Headed};
+use crate::room::{first_of, is_of_size, write_parts};
 use taps_base::NoMemory;
-use taps_framer::{Framer, Sight};
+use taps_framer::{Framer, Run, Scan, Seen, Sight};
 
 /// A body has at most so many bytes.
 pub(crate) const MOST: usize = 1_048_576;
@@ -14,19 +16,6 @@ pub(crate) const MOST: usize = 1_048_576;
 /// Four bytes of length in network order, and the body (this project's own).
 #[derive(Clone, Copy, Debug)]
 pub struct Len32;
-
-/// The number that four bytes tell, where those that have not come are zero.
-pub(crate) fn number_in(buffer: &[u8]) -> u32
-    ensures { result ≡ from_be_bytes w32 buffer.now }
-{
-    match buffer {
-        [a, b, c, d, ..] => u32::from_be_bytes([*a, *b, *c, *d]),
-        [a, b, c] => u32::from_be_bytes([*a, *b, *c, 0]),
-        [a, b] => u32::from_be_bytes([*a, *b, 0, 0]),
-        [a] => u32::from_be_bytes([*a, 0, 0, 0]),
-        [] => 0,
-    }
-}
 
 /// The place of the byte with which the number passes the limit.
 fn bad_place(_buffer: &[u8], number: usize) -> usize
@@ -46,25 +35,43 @@ fn bad_place(_buffer: &[u8], number: usize) -> usize
     3
 }
 
-/// The four bytes of length.
-pub(crate) fn head_in(buffer: &[u8]) -> Head
-    ensures { (i : ℕ) → IsHead len32_format i buffer.now result }
-{
-    let size = number_in(buffer) as usize;
-    if size > MOST {
-        return Head::Bad {
-            place: bad_place(buffer, size),
-        };
+impl Headed for Len32 {
+    ghost format = { λ _. len32_format };
+
+    ghost number = { λ _. number_behind 0 };
+
+    fn head_in(&self, _index: u64, buffer: &[u8]) -> Head {
+        let size = number_in(buffer) as usize;
+        if size > MOST {
+            return Head::Bad {
+                place: bad_place(buffer, size),
+            };
+        }
+        if buffer.len() < 4 {
+            Head::Need
+        } else {
+            Head::Whole { width: 4, size }
+        }
     }
-    if buffer.len() < 4 {
-        Head::Need
-    } else {
-        Head::Whole { width: 4, size }
+
+    fn head_with(&self, index: u64, count: u64, value: u64, byte: u8) -> Grown {
+        let mut bytes = (value as u32).to_be_bytes();
+        bytes[count as usize] = byte;
+        let seen = first_of(&bytes, count as usize + 1);
+        grown_by(self.head_in(index, seen), seen)
     }
+
+    fn tail(&self) -> Option<u8> {
+        None
+    }
+
+    fn vouch_for_heads(&self) {}
 }
 
 impl Framer for Len32 {
     ghost layer = { λ _. len32 };
+
+    ghost scans = { λ _. headed_scan len32_format (number_behind 0) };
 
     fn name(&self) -> &str {
         "len32"
@@ -78,14 +85,27 @@ impl Framer for Len32 {
         write_parts(&(body.len() as u32).to_be_bytes(), body, &[], out)
     }
 
-    fn read(&self, _index: u64, buffer: &[u8]) -> Sight {
-        sight_of(head_in(buffer), buffer.len())
+    fn start(&self, index: u64) -> Scan {
+        headed::start(self, index)
     }
 
-    fn unwrap(&self, _index: u64, frame: &[u8], out: &mut Vec<u8>) -> Result<(), NoMemory> {
-        out.extend_from_slice(body_of(head_in(frame), frame))?;
-        Ok(())
+    fn step(&self, index: u64, scan: Scan, byte: u8) -> Seen {
+        headed::step(self, index, scan, byte)
     }
 
-    fn vouch(&self, _index: u64) {}
+    fn advance(&self, index: u64, scan: Scan, bytes: &[u8]) -> Run {
+        headed::advance(self, index, scan, bytes)
+    }
+
+    fn read(&self, index: u64, buffer: &[u8]) -> Sight {
+        headed::read(self, index, buffer)
+    }
+
+    fn unwrap(&self, index: u64, frame: &[u8], out: &mut Vec<u8>) -> Result<(), NoMemory> {
+        headed::unwrap(self, index, frame, out)
+    }
+
+    fn vouch(&self, _index: u64) {
+        headed::vouch(self);
+    }
 }

@@ -4,17 +4,17 @@
 mod counted;
 mod decimal;
 mod head;
+mod headed;
 mod len16;
 mod len32;
 mod line;
 mod netstring;
 mod prefix;
 mod room;
+mod runs;
 mod seq;
 mod stuffed;
 mod tag;
-#[cfg(test)]
-mod tests;
 mod varint;
 
 pub use counted::Counted;

@@ -1,11 +1,12 @@
-ghost use Rattle.std.specs.Prelude.{◌≡◌, ◌-◌, ◌<◌, ◌≤◌, true, length, take, slice_index};
-ghost use Rattle.taps_framer.specs.Sights.{IsSight};
-ghost use Rattle.taps_frames.specs.Line.{line, is_one_line};
+ghost use Rattle.std.specs.Prelude.{◌≡◌, ◌-◌, ◌<◌, ◌≤◌, ℕ, List, true, length, take, slice_index};
+ghost use Rattle.taps_framer.specs.Scans.{Represents, IsRun};
+ghost use Rattle.taps_frames.specs.Line.{line, line_scan, is_one_line};
 
 use crate::room::{first_of, is_of_size, write_parts};
+use crate::runs::{seen_of, sight_of};
 use memchr::memchr;
 use taps_base::NoMemory;
-use taps_framer::{Framer, Sight};
+use taps_framer::{Framer, Run, Scan, Seen, Sight};
 
 /// A body has at most so many bytes.
 const MOST: usize = 65_535;
@@ -26,18 +27,24 @@ fn line_len(bytes: &[u8]) -> usize
     }
 }
 
-/// What is seen, in a look at no more bytes than a frame has.
-fn sight(_index: u64, buffer: &[u8]) -> Sight
-    ensures { IsSight line _index buffer.now result }
+/// Looks at the next bytes of a line, at no more than a frame has.
+fn advance(_index: u64, scan: Scan, bytes: &[u8]) -> Run
+    requires { (x : List ℕ) × Represents line line_scan _index scan x }
+    ensures { (x : List ℕ) → Represents line line_scan _index scan x → IsRun line line_scan _index x bytes.now result }
 {
-    let place = line_len(first_of(buffer, MOST + 1));
-    if place > MOST {
-        return Sight::Bad { place: MOST };
+    let room = MOST - scan.length as usize;
+    let place = line_len(first_of(bytes, room + 1));
+    if place > room {
+        return Run::Bad { place: room };
     }
-    if place == buffer.len() {
-        return Sight::Need;
+    if place == bytes.len() {
+        return Run::More(Scan {
+            phase: 0,
+            length: scan.length + place as u64,
+            rest: 0,
+        });
     }
-    Sight::Whole { used: place + 1 }
+    Run::Whole { used: place + 1 }
 }
 
 /// The bytes but for the last.
@@ -51,6 +58,8 @@ fn but_last(frame: &[u8]) -> &[u8]
 impl Framer for Line {
     ghost layer = { λ _. line };
 
+    ghost scans = { λ _. line_scan };
+
     fn name(&self) -> &str {
         "line"
     }
@@ -63,8 +72,24 @@ impl Framer for Line {
         write_parts(&[], body, b"\n", out)
     }
 
+    fn start(&self, _index: u64) -> Scan {
+        Scan {
+            phase: 0,
+            length: 0,
+            rest: 0,
+        }
+    }
+
+    fn step(&self, index: u64, scan: Scan, byte: u8) -> Seen {
+        seen_of(advance(index, scan, &[byte]))
+    }
+
+    fn advance(&self, index: u64, scan: Scan, bytes: &[u8]) -> Run {
+        advance(index, scan, bytes)
+    }
+
     fn read(&self, index: u64, buffer: &[u8]) -> Sight {
-        sight(index, buffer)
+        sight_of(advance(index, self.start(index), buffer))
     }
 
     fn unwrap(&self, _index: u64, frame: &[u8], out: &mut Vec<u8>) -> Result<(), NoMemory> {

@@ -1,36 +1,42 @@
-ghost use Rattle.std.specs.Prelude.{◌≡◌};
-ghost use Rattle.taps_framer.specs.Sights.{IsSight};
-ghost use Rattle.taps_frames.specs.Heads.{IsWholeHead};
+ghost use Rattle.taps_frames.specs.Decimals.{written_number};
 ghost use Rattle.taps_frames.specs.Netstring.{netstring, netstring_format};
+ghost use Rattle.taps_frames.specs.Scans.{headed_scan};
 
-use crate::decimal::{MOST, head_in, write_counted};
-use crate::head::{Head, body_of};
+use crate::decimal::{self, MOST, digit_step, write_counted};
+use crate::head::{Grown, Head};
+use crate::headed::{self, Headed};
 use crate::room::is_of_size;
 use taps_base::NoMemory;
-use taps_framer::{Framer, Sight};
+use taps_framer::{Framer, Run, Scan, Seen, Sight};
 
 /// The length in decimal, a colon, the body and a comma (the netstring form).
 #[derive(Clone, Copy, Debug)]
 pub struct Netstring;
 
-/// What is seen where a head of this width tells this size.
-fn sight_behind(_index: u64, buffer: &[u8], width: usize, size: usize) -> Sight
-    requires { IsWholeHead netstring_format _index buffer.now width size }
-    ensures { IsSight netstring _index buffer.now result }
-{
-    if buffer.len() - width <= size {
-        return Sight::Need;
+impl Headed for Netstring {
+    ghost format = { λ _. netstring_format };
+
+    ghost number = { λ _. written_number };
+
+    fn head_in(&self, _index: u64, buffer: &[u8]) -> Head {
+        decimal::head_in(buffer, 0, b':')
     }
-    let comma = width + size;
-    if buffer[comma] == b',' {
-        Sight::Whole { used: comma + 1 }
-    } else {
-        Sight::Bad { place: comma }
+
+    fn head_with(&self, _index: u64, count: u64, value: u64, byte: u8) -> Grown {
+        digit_step(0, b':', count, value, byte)
     }
+
+    fn tail(&self) -> Option<u8> {
+        Some(b',')
+    }
+
+    fn vouch_for_heads(&self) {}
 }
 
 impl Framer for Netstring {
     ghost layer = { λ _. netstring };
+
+    ghost scans = { λ _. headed_scan netstring_format written_number };
 
     fn name(&self) -> &str {
         "netstring"
@@ -44,18 +50,27 @@ impl Framer for Netstring {
         write_counted(b':', body, b",", out)
     }
 
+    fn start(&self, index: u64) -> Scan {
+        headed::start(self, index)
+    }
+
+    fn step(&self, index: u64, scan: Scan, byte: u8) -> Seen {
+        headed::step(self, index, scan, byte)
+    }
+
+    fn advance(&self, index: u64, scan: Scan, bytes: &[u8]) -> Run {
+        headed::advance(self, index, scan, bytes)
+    }
+
     fn read(&self, index: u64, buffer: &[u8]) -> Sight {
-        match head_in(buffer, 0, b':') {
-            Head::Need => Sight::Need,
-            Head::Bad { place } => Sight::Bad { place },
-            Head::Whole { width, size } => sight_behind(index, buffer, width, size),
-        }
+        headed::read(self, index, buffer)
     }
 
-    fn unwrap(&self, _index: u64, frame: &[u8], out: &mut Vec<u8>) -> Result<(), NoMemory> {
-        out.extend_from_slice(body_of(head_in(frame, 0, b':'), frame))?;
-        Ok(())
+    fn unwrap(&self, index: u64, frame: &[u8], out: &mut Vec<u8>) -> Result<(), NoMemory> {
+        headed::unwrap(self, index, frame, out)
     }
 
-    fn vouch(&self, _index: u64) {}
+    fn vouch(&self, _index: u64) {
+        headed::vouch(self);
+    }
 }

@@ -1,5 +1,5 @@
 // Heads behind bytes that are known.
-ghost use Rattle.std.specs.Prelude.{◌≡◌, ◌++◌, MatchResult};
+ghost use Rattle.std.specs.Prelude.{◌≡◌, ◌++◌, drop, MatchResult};
 ghost use Rattle.taps_frames.specs.Heads.{IsOfPrefix, IsMoved};
 
 use crate::head::Head;
@@ -32,5 +32,16 @@ pub(crate) fn moved(width: usize, inner: Head) -> Head
             width: width.saturating_add(own),
             size,
         },
+    }
+}
+
+/// The bytes that follow the first `width`.
+pub(crate) fn behind(bytes: &[u8], width: usize) -> &[u8]
+    ensures { result.now ≡ drop width bytes.now }
+{
+    if width < bytes.len() {
+        &bytes[width..]
+    } else {
+        &[]
     }
 }

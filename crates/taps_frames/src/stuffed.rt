@@ -1,11 +1,12 @@
-ghost use Rattle.std.specs.Prelude.{◌≡◌, ◌+◌, ◌<◌, ◌≤◌, ◌++◌, ◌==◌, true, cond, length, take, drop, slice_index, count_by, vec_len, vec_capacity};
-ghost use Rattle.taps_framer.specs.Sights.{IsSight};
-ghost use Rattle.taps_frames.specs.Stuffed.{stuffed, spelled, stuff, plain, is_special, are_plain};
+ghost use Rattle.std.specs.Prelude.{◌≡◌, ◌+◌, ◌<◌, ◌≤◌, ◌++◌, ◌∷◌, [], ℕ, List, ◌==◌, true, cond, length, take, drop, slice_index, count_by, vec_len, vec_capacity};
+ghost use Rattle.taps_framer.specs.Scans.{Represents, IsSeen, IsRun};
+ghost use Rattle.taps_frames.specs.Stuffed.{stuffed, stuffed_scan, IsPart, IsPlainRun, spelled, stuff, plain, is_special, are_plain};
 
 use crate::room::{first_of, is_of_size, put};
+use crate::runs::sight_of;
 use memchr::{memchr2, memchr2_iter};
 use taps_base::NoMemory;
-use taps_framer::{Framer, Sight};
+use taps_framer::{Framer, Run, Scan, Seen, Sight};
 
 /// The byte that ends a frame.
 const END: u8 = 192;
@@ -15,8 +16,15 @@ const ESCAPE: u8 = 219;
 const ESCAPED_END: u8 = 220;
 /// What stands behind the escape byte for the escape byte.
 const ESCAPED_ESCAPE: u8 = 221;
+/// Fewer bytes than this are looked at one by one: a search costs more to begin.
+const WORTH_A_SEARCH: usize = 4;
 /// A body has at most so many bytes.
 const MOST: usize = 65_535;
+
+/// The phase of a scan after a byte of the body: `length` of them came.
+const SPELLED: u64 = 0;
+/// The phase of a scan after an escape byte, which begins the last of `length` bytes of the body.
+const ESCAPED: u64 = 1;
 
 /// The body with two of the bytes spelled by two each, and an end byte (the byte values of RFC 1055).
 #[derive(Clone, Copy, Debug)]
@@ -34,51 +42,93 @@ fn plain_run(bytes: &[u8]) -> usize
     }
 }
 
-/// The number of bytes from a place on before the first that is spelled by two, where it is at most
-/// so many, and one more where it is more.
-fn run_from(buffer: &[u8], at: usize, room: usize) -> usize
-    requires inside { at ≤ length buffer.now }
-    requires room { room ≤ 65535 }
-    ensures within { at + result ≤ length buffer.now }
-    ensures plain { are_plain (take result (drop at buffer.now)) ≡ true }
-    ensures stops { at + result < length buffer.now → result ≤ room → is_special (slice_index buffer.now (at + result)) ≡ true }
+/// How many of the bytes from a place on are found at once that are spelled by themselves and fit
+/// into the body, where the byte before them is no escape byte.
+fn run_from(scan: Scan, bytes: &[u8], at: usize) -> usize
+    requires inside { at < length bytes.now }
+    requires small { scan.length ≤ 65535 }
+    ensures { IsPlainRun scan (drop at bytes.now) result }
 {
-    plain_run(first_of(&buffer[at..], room + 1))
+    if scan.phase == ESCAPED || bytes[at] == END || bytes[at] == ESCAPE {
+        return 0;
+    }
+    if bytes.len() - at < WORTH_A_SEARCH {
+        return 0;
+    }
+    plain_run(first_of(&bytes[at..], MOST - scan.length as usize))
 }
 
-/// What is seen, in a look at no more bytes than a frame has.
-fn sight(_index: u64, buffer: &[u8]) -> Sight
-    ensures { IsSight stuffed _index buffer.now result }
+/// Looks at the next byte of a frame.
+fn step(_index: u64, scan: Scan, byte: u8) -> Seen
+    requires { (x : List ℕ) × Represents stuffed stuffed_scan _index scan x }
+    ensures { (x : List ℕ) → Represents stuffed stuffed_scan _index scan x →
+        IsSeen stuffed stuffed_scan _index (x ++ byte ∷ []) result }
 {
-    let mut at = 0;
-    let mut size = 0;
-    while at < buffer.len() {
-        let room = MOST - size;
-        let run = run_from(buffer, at, room);
-        if run > room {
-            return Sight::Bad { place: at + room };
-        }
-        at += run;
-        size += run;
-        if at == buffer.len() {
-            return Sight::Need;
-        }
-        if buffer[at] == END {
-            return Sight::Whole { used: at + 1 };
-        }
-        if size == MOST {
-            return Sight::Bad { place: at };
-        }
-        if at + 1 == buffer.len() {
-            return Sight::Need;
-        }
-        if buffer[at + 1] != ESCAPED_END && buffer[at + 1] != ESCAPED_ESCAPE {
-            return Sight::Bad { place: at + 1 };
-        }
-        at += 2;
-        size += 1;
+    if scan.phase == ESCAPED {
+        return step_escaped(_index, scan.length, byte);
     }
-    Sight::Need
+    if byte == END {
+        return Seen::Whole;
+    }
+    if scan.length == MOST as u64 {
+        return Seen::Bad;
+    }
+    if byte == ESCAPE {
+        return Seen::More(Scan {
+            phase: ESCAPED,
+            length: scan.length + 1,
+            rest: 0,
+        });
+    }
+    Seen::More(Scan {
+        phase: SPELLED,
+        length: scan.length + 1,
+        rest: 0,
+    })
+}
+
+/// Looks at the byte that follows an escape byte.
+fn step_escaped(_index: u64, length: u64, byte: u8) -> Seen
+    ensures { (x : List ℕ) → IsPart x true length → length ≤ 65535 →
+        IsSeen stuffed stuffed_scan _index (x ++ byte ∷ []) result }
+{
+    if byte == ESCAPED_END || byte == ESCAPED_ESCAPE {
+        Seen::More(Scan {
+            phase: SPELLED,
+            length,
+            rest: 0,
+        })
+    } else {
+        Seen::Bad
+    }
+}
+
+/// Looks at the next bytes of a frame, by runs of bytes that are spelled by themselves.
+fn advance(_index: u64, scan: Scan, bytes: &[u8]) -> Run
+    requires { (x : List ℕ) × Represents stuffed stuffed_scan _index scan x }
+    ensures { (x : List ℕ) → Represents stuffed stuffed_scan _index scan x → IsRun stuffed stuffed_scan _index x bytes.now result }
+{
+    let mut reached = scan;
+    let mut at = 0;
+    while at < bytes.len() {
+        let run = run_from(reached, bytes, at);
+        at += run;
+        let behind = Scan {
+            phase: reached.phase,
+            length: reached.length + run as u64,
+            rest: 0,
+        };
+        if at == bytes.len() {
+            return Run::More(behind);
+        }
+        match step(_index, behind, bytes[at]) {
+            Seen::More(next) => reached = next,
+            Seen::Whole => return Run::Whole { used: at + 1 },
+            Seen::Bad => return Run::Bad { place: at },
+        }
+        at += 1;
+    }
+    Run::More(reached)
 }
 
 /// The number of bytes that are spelled by two.
@@ -182,6 +232,8 @@ fn read_all(frame: &[u8], out: &mut Vec<u8>)
 impl Framer for Stuffed {
     ghost layer = { λ _. stuffed };
 
+    ghost scans = { λ _. stuffed_scan };
+
     fn name(&self) -> &str {
         "stuffed"
     }
@@ -197,8 +249,24 @@ impl Framer for Stuffed {
         Ok(())
     }
 
+    fn start(&self, _index: u64) -> Scan {
+        Scan {
+            phase: SPELLED,
+            length: 0,
+            rest: 0,
+        }
+    }
+
+    fn step(&self, index: u64, scan: Scan, byte: u8) -> Seen {
+        step(index, scan, byte)
+    }
+
+    fn advance(&self, index: u64, scan: Scan, bytes: &[u8]) -> Run {
+        advance(index, scan, bytes)
+    }
+
     fn read(&self, index: u64, buffer: &[u8]) -> Sight {
-        sight(index, buffer)
+        sight_of(advance(index, self.start(index), buffer))
     }
 
     fn unwrap(&self, _index: u64, frame: &[u8], out: &mut Vec<u8>) -> Result<(), NoMemory> {

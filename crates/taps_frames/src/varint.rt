@@ -1,13 +1,15 @@
 ghost use Rattle.std.specs.Prelude.{◌≡◌, ℕ, ◌+◌, ◌<◌, ◌≤◌, length, slice_index};
 ghost use Rattle.std.specs.Int.{w32, from_be_bytes};
 ghost use Rattle.taps_frames.specs.Heads.{IsHead, IsBadHead};
+ghost use Rattle.taps_frames.specs.Scans.{headed_scan, number_behind};
 ghost use Rattle.taps_frames.specs.Varint.{varint, varint_format};
 
-use crate::head::{Head, body_of, sight_of};
-use crate::len32::{MOST, number_in};
-use crate::room::{is_of_size, write_parts};
+use crate::head::{Grown, Head, grown_by, number_in};
+use crate::headed::{self, Headed};
+use crate::len32::MOST;
+use crate::room::{first_of, is_of_size, write_parts};
 use taps_base::NoMemory;
-use taps_framer::{Framer, Sight};
+use taps_framer::{Framer, Run, Scan, Seen, Sight};
 
 /// What stands above the number in a form of two bytes.
 const TWO: usize = 0x4000;
@@ -66,31 +68,49 @@ fn head_of_four(buffer: &[u8]) -> Head
     Head::Whole { width: 4, size }
 }
 
-/// The length.
-fn head_in(buffer: &[u8]) -> Head
-    ensures { (i : ℕ) → IsHead varint_format i buffer.now result }
-{
-    match buffer {
-        [] => Head::Need,
-        [first, ..] if *first < 64 => Head::Whole {
-            width: 1,
-            size: *first as usize,
-        },
-        [first] if *first < 128 => Head::Need,
-        [first, second, ..] if *first < 128 => {
-            let size = u16::from_be_bytes([*first, *second]) as usize - TWO;
-            if size < 64 {
-                Head::Bad { place: 1 }
-            } else {
-                Head::Whole { width: 2, size }
+impl Headed for Varint {
+    ghost format = { λ _. varint_format };
+
+    ghost number = { λ _. number_behind 0 };
+
+    fn head_in(&self, _index: u64, buffer: &[u8]) -> Head {
+        match buffer {
+            [] => Head::Need,
+            [first, ..] if *first < 64 => Head::Whole {
+                width: 1,
+                size: *first as usize,
+            },
+            [first] if *first < 128 => Head::Need,
+            [first, second, ..] if *first < 128 => {
+                let size = u16::from_be_bytes([*first, *second]) as usize - TWO;
+                if size < 64 {
+                    Head::Bad { place: 1 }
+                } else {
+                    Head::Whole { width: 2, size }
+                }
             }
+            _ => head_of_four(buffer),
         }
-        _ => head_of_four(buffer),
     }
+
+    fn head_with(&self, index: u64, count: u64, value: u64, byte: u8) -> Grown {
+        let mut bytes = (value as u32).to_be_bytes();
+        bytes[count as usize] = byte;
+        let seen = first_of(&bytes, count as usize + 1);
+        grown_by(self.head_in(index, seen), seen)
+    }
+
+    fn tail(&self) -> Option<u8> {
+        None
+    }
+
+    fn vouch_for_heads(&self) {}
 }
 
 impl Framer for Varint {
     ghost layer = { λ _. varint };
+
+    ghost scans = { λ _. headed_scan varint_format (number_behind 0) };
 
     fn name(&self) -> &str {
         "varint"
@@ -112,14 +132,27 @@ impl Framer for Varint {
         write_parts(&((FOUR + size) as u32).to_be_bytes(), body, &[], out)
     }
 
-    fn read(&self, _index: u64, buffer: &[u8]) -> Sight {
-        sight_of(head_in(buffer), buffer.len())
+    fn start(&self, index: u64) -> Scan {
+        headed::start(self, index)
     }
 
-    fn unwrap(&self, _index: u64, frame: &[u8], out: &mut Vec<u8>) -> Result<(), NoMemory> {
-        out.extend_from_slice(body_of(head_in(frame), frame))?;
-        Ok(())
+    fn step(&self, index: u64, scan: Scan, byte: u8) -> Seen {
+        headed::step(self, index, scan, byte)
     }
 
-    fn vouch(&self, _index: u64) {}
+    fn advance(&self, index: u64, scan: Scan, bytes: &[u8]) -> Run {
+        headed::advance(self, index, scan, bytes)
+    }
+
+    fn read(&self, index: u64, buffer: &[u8]) -> Sight {
+        headed::read(self, index, buffer)
+    }
+
+    fn unwrap(&self, index: u64, frame: &[u8], out: &mut Vec<u8>) -> Result<(), NoMemory> {
+        headed::unwrap(self, index, frame, out)
+    }
+
+    fn vouch(&self, _index: u64) {
+        headed::vouch(self);
+    }
 }

@@ -1,13 +1,16 @@
-//! Measures the framers: `taps_frames_bench BYTES FRAMER WORK` writes so many bytes of bodies as one
+//! Measures the framers. `taps_frames_bench BYTES FRAMER WORK` writes so many bytes of bodies as one
 //! stream of frames, and reads it back. FRAMER is a framer's name or `all`, and WORK is `write`,
-//! `read` or `open`, each with those before it. It prints counts alone.
+//! `read` or `open`, each with those before it. `taps_frames_bench FILE CHAIN hear PIECE` hears the
+//! messages of a file's bytes in pieces of so many, through `line`, `stuffed` or `len16` over
+//! `netstring`. It prints counts alone.
 #![tactic(auto)]
 
-ghost use Rattle.std.specs.Prelude.{◌≤◌, length, IfOk};
+ghost use Rattle.std.specs.Prelude.{◌<◌, ◌≤◌, length, IfOk, All};
 
 use std::alloc::{AllocError, Global};
-use std::env;
-use taps_base::NoMemory;
+use std::{env, fs};
+use taps_base::{Body, List, NoMemory};
+use taps_chain::{Chain, hear_bytes};
 use taps_framer::{Framer, Sight, name_in, read_in, speaks_in, unwrap_in, vouch_in, write_in};
 use taps_frames::{Counted, Len16, Len32, Line, Netstring, Seq, Stuffed, Tag, Varint};
 
@@ -50,6 +53,9 @@ fn main(rt: HostRuntime) -> anyhow::Result<()> {
     shelf.push(Box::new(alloc, Stuffed)?)?;
     shelf.push(Box::new(alloc, Tag { kind: 77 })?)?;
     shelf.push(Box::new(alloc, Seq)?)?;
+    if let Some(words) = hear_words(&rt)? {
+        return hear(&rt, &shelf, &words);
+    }
     let task = read_task(&rt)?;
     let body = make_body(alloc)?;
     for framer in &shelf {
@@ -65,6 +71,66 @@ fn main(rt: HostRuntime) -> anyhow::Result<()> {
         }
     }
     Ok(())
+}
+
+// A file whose messages are to be heard.
+#[derive(Drop)]
+struct HearWords {
+    file: String,
+    chain: String,
+    piece: usize,
+}
+
+// The words `FILE CHAIN hear PIECE`, if they stand on the command line.
+fn hear_words(rt: &HostRuntime) -> anyhow::Result<Option<HearWords>> {
+    let mut words = env::args(rt)?.skip(1);
+    let (file, chain, work) = match (words.next(), words.next(), words.next()) {
+        (Some(file), Some(chain), Some(work)) => (file, chain, work),
+        _ => return Ok(None),
+    };
+    if work.as_str() != "hear" {
+        return Ok(None);
+    }
+    let piece = match words.next() {
+        Some(word) => word.parse::<usize>().unwrap_or(1),
+        None => 1,
+    };
+    Ok(Some(HearWords { file, chain, piece }))
+}
+
+// Hears the messages of a file's bytes, and prints how many there are.
+fn hear(rt: &HostRuntime, shelf: &Vec<Box<dyn Framer>>, words: &HearWords) -> anyhow::Result<()> {
+    let bytes = fs::read(rt, words.file.as_str())?;
+    if shelf.len() < 9 {
+        return Ok(());
+    }
+    let count = match words.chain.as_str() {
+        "line" => count_heard(rt.alloc(), shelf, &[5], &bytes, words.piece),
+        "stuffed" => count_heard(rt.alloc(), shelf, &[6], &bytes, words.piece),
+        _ => count_heard(rt.alloc(), shelf, &[0, 3], &bytes, words.piece),
+    };
+    let count = count.ok().ok_or(AllocError)?;
+    println!(rt; "{} messages {count}", words.chain.as_str())?;
+    Ok(())
+}
+
+fn count_heard(
+    alloc: Global,
+    shelf: &Vec<Box<dyn Framer>>,
+    places: &[usize],
+    bytes: &[u8],
+    piece: usize,
+) -> Result<usize, NoMemory>
+    requires some { 0 < length places.now }
+    requires few { length places.now ≤ 8 }
+    requires within { All (λ p. p < length shelf.now.items) places.now }
+{
+    let chain = Chain::new(alloc, shelf, places)?;
+    let mut sink = List::new(alloc);
+    if piece > 0 && bytes.len() <= 4_194_304 {
+        let _ = hear_bytes(chain, bytes, piece, &mut sink);
+    }
+    Ok(sink.len())
 }
 
 // What the words on the command line ask for.

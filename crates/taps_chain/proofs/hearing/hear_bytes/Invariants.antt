@@ -1,11 +1,9 @@
-use Rattle.std.proofs.Common.{map}
-use Rattle.std.specs.Slice.Iter.{chunks_rest}
-use Rattle.taps_chain.proofs.Coming.{HasCome}
+use Rattle.std.proofs.Common.{◌-◌, length, map}
+use Rattle.taps_chain.specs.Hearings.{Waits}
 use Rattle.taps_chain.proofs.hearing.hear_bytes.Given as goal
 
-abbrev pub invariant-loop-part : goal.invariant-loop-part
-invariant-loop-part g l = record {
-  can_next : (goal.iterator-loop-part g).can_next l.part-iterator;
-  is_finite : (goal.iterator-loop-part g).is_finite l.part-iterator;
-  came : HasCome (map (λ b. (goal.Framer-dyn g (b.now.vtable, b.now.value)).layer b.now.value) l.chain.framers.items) l.bytes (chunks_rest l.part-iterator) l.sink.items l.stream l.skipped;
-}
+abbrev pub invariant-pieces : goal.invariant-pieces
+invariant-pieces g l = Waits (map (λ b. (goal.Framer-dyn g (b.now.vtable, b.now.value)).layer b.now.value) l.chain.framers.items) ((goal.Framer-dyn g (l.first.vtable, l.first.value)).layer l.first.value) ((goal.Framer-dyn g (l.first.vtable, l.first.value)).scans l.first.value) l.bytes l.sink.items l.progress
+
+abbrev pub decreases-pieces : goal.decreases-pieces
+decreases-pieces g l = length l.bytes - l.progress.fed
