@@ -11,7 +11,7 @@ use taps_app::{Status, run};
 use taps_base::{NoMemory, RealFiles, Sink, StdSink};
 use taps_framer::Framer;
 use taps_frames::{Counted, Len16, Len32, Line, Netstring, Seq, Stuffed, Tag, Varint};
-use taps_socket::{ScriptError, ScriptSockets};
+use taps_script::{ScriptError, ScriptSockets};
 
 fn main(rt: HostRuntime) -> ExitCode {
     let status = match started(rt) {
@@ -52,7 +52,7 @@ fn started(rt: HostRuntime) -> Result<Status, NoMemory> {
 
 // Sockets in which nothing ever answers, until there are real ones.
 fn silent_sockets(alloc: Global) -> Result<ScriptSockets, NoMemory>
-    ensures { IfOk result (λ net. net.net.trace ≡ []) }
+    ensures { IfOk result (λ net. net.trace ≡ []) }
 {
     match ScriptSockets::read(alloc, b"") {
         Ok(net) => Ok(net),

@@ -1,7 +1,11 @@
 pub mod Judging
+pub mod Gathering
+pub mod FileChecks
 pub mod Places
-pub mod Contents
 pub mod Plans
-pub mod Causes
-pub mod Completeness
 pub mod Logs
+pub mod Saying
+pub mod Causes
+pub mod Complete
+pub mod Corollaries
+pub mod Promised

@@ -3,24 +3,19 @@ use Rattle.std.proofs.Common.{◌≡◌, ◌<◌, ◌≤◌, ◌+◌, ◌++◌, 
 use Rattle.std.specs.List.{All, filter_map}
 use Rattle.std.proofs.lemmas.Bool.{cases_Bool}
 use Rattle.std.proofs.lemmas.List.Elements.{All-nil, All-cons, All-append}
+use Rattle.taps_base.specs.Results.{◌>>=◌}
+use Rattle.taps_base.proofs.Results.{both_ok, ok_same}
 use Rattle.taps_framer.specs.Layers.{Layer}
 use Rattle.taps_text.specs.declared.refusal.Refusal.{Refusal}
-use Rattle.taps_app.specs.Checks.{◌>>=◌, place_from, or_unknown, places_after, places_on}
-use Rattle.taps_app.specs.Texts.{HasText, status_if, layers_at}
-
--- what was found before, where more was looked for
-both_found : {A B : Type 0} (r : Result A Refusal) (f : A → Result B Refusal) (y : B) → r >>= f ≡ Ok y → (x : A) × (r ≡ Ok x) × (f x ≡ Ok y)
-both_found (Ok x) f y h = (x, refl, h)
-both_found (Err why) f y h = cc
-
-ok_same : {A : Type 0} (x y : A) → (let r : Result A Refusal = Ok x in r ≡ Ok y) → x ≡ y
-ok_same x y h = cc
+use Rattle.taps_app.specs.Frame.{status_if}
+use Rattle.taps_app.specs.Meanings.{HasText}
+use Rattle.taps_app.specs.Places.{place_from, or_unknown, places_after, places_on, chain_of}
 
 -- there is one place a name
 places_counted : (shelf : List Layer) (found : List ℕ) (names : List (List ℕ)) (places : List ℕ) → places_after shelf found names ≡ Ok places → length places ≡ length found + length names
 places_counted shelf found [] places h = rw (← ok_same found places h) (omega arith)
 places_counted shelf found (name ∷ names) places h =
-    let (place, there, more) = both_found (or_unknown (length found) (place_from 0 name shelf)) (λ place. places_after shelf (found ++ place ∷ []) names) places h in
+    let (place, there, more) = both_ok (or_unknown (length found) (place_from 0 name shelf)) (λ place. places_after shelf (found ++ place ∷ []) names) places h in
     omega (arith, places_counted shelf (found ++ place ∷ []) names places more, length-append found (place ∷ []))
 
 pub few_places : (shelf : List Layer) (names : List (List ℕ)) (places : List ℕ) → length names ≤ 8 → places_on shelf names ≡ Ok places → length places ≤ 8
@@ -45,7 +40,7 @@ found_within number (Some found) place h = cc
 places_all : (shelf : List Layer) (found : List ℕ) (names : List (List ℕ)) (places : List ℕ) → All (λ place. place < length shelf) found → places_after shelf found names ≡ Ok places → All (λ place. place < length shelf) places
 places_all shelf found [] places within h = rw (← ok_same found places h) within
 places_all shelf found (name ∷ names) places within h =
-    let (place, there, more) = both_found (or_unknown (length found) (place_from 0 name shelf)) (λ place. places_after shelf (found ++ place ∷ []) names) places h in
+    let (place, there, more) = both_ok (or_unknown (length found) (place_from 0 name shelf)) (λ place. places_after shelf (found ++ place ∷ []) names) places h in
     let one : place < length shelf = omega (arith, place_within 0 name shelf place (found_within (length found) (place_from 0 name shelf) place there)) in
     places_all shelf (found ++ place ∷ []) names places (All-append (λ place. place < length shelf) found (place ∷ []) within (All-cons (λ place. place < length shelf) place [] one (All-nil (λ place. place < length shelf)))) more
 
@@ -54,7 +49,7 @@ unfolding places_on
 places_within shelf names places h = places_all shelf [] names places (All-nil (λ place. place < length shelf)) h
 
 -- the layers that stand at places are those
-pub layers_there : (shelf : List Layer) (places : List ℕ) (layers : List Layer) → map Some layers ≡ map (slice_get shelf) places → layers ≡ layers_at shelf places
+pub layers_there : (shelf : List Layer) (places : List ℕ) (layers : List Layer) → map Some layers ≡ map (slice_get shelf) places → layers ≡ chain_of shelf places
 layers_there shelf [] [] h = refl
 layers_there shelf [] (f ∷ fs) h = cc
 layers_there shelf (place ∷ places) [] h = cc

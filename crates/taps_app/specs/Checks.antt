@@ -1,18 +1,21 @@
--- What the checks of a form's files come to, in their order: what the command goes on with, or the first check that fails (this project's own).
-use Rattle.std.specs.Prelude.{ℕ, ◌+◌, Bool, true, false, ◌&&◌, ◌==◌, List, [], ◌∷◌, ◌++◌, Option, Some, None, Result, Ok, Err, length, bytes_eq, nat_le, if◌then◌else◌}
+-- The checks of the files in their order: what they give, or the first check that fails (local).
+use Rattle.std.specs.Prelude.{◌≡◌, ◌≤◌, ℕ, zero, suc, ⊤, Bool, true, false, ◌&&◌, ◌==◌, List, [], Option, Some, None, Result, Ok, Err, length, nat_le, if◌then◌else◌}
+use Rattle.taps_base.specs.Results.{◌>>=◌}
 use Rattle.taps_endpoint.specs.declared.address.Address.{Address}
 use Rattle.taps_endpoint.specs.DerivedAddresses.{derived_addresses}
+use Rattle.taps_framer.specs.Layers.{Layer}
 use Rattle.taps_preconnection.specs.File.{preconnection_of}
 use Rattle.taps_preconnection.specs.declared.exchange.RunRole.{RunRole}
 use Rattle.taps_preconnection.specs.declared.exchange.RunRole.TheVariants as role
-use Rattle.taps_preconnection.specs.declared.pre_error.PreError.{PreError}
+use Rattle.taps_table.specs.declared.pre_error.PreError.{PreError}
 use Rattle.taps_preconnection.specs.declared.preconnection.Preconnection.{Preconnection}
-use Rattle.taps_socket.specs.declared.line.Line.{Line}
-use Rattle.taps_socket.specs.Scripts.{script_of}
 use Rattle.taps_text.specs.declared.refusal.Refusal.{Refusal}
 use Rattle.taps_text.specs.declared.refusal.Refusal.TheVariants as refusal
-use Rattle.taps_framer.specs.Layers.{Layer}
-use Rattle.taps_app.specs.Forms.{Form, Plan, Sim, Run, Frame, Unframe}
+use Rattle.taps_app.specs.Meanings.{Reading}
+use Rattle.taps_app.specs.Places.{places_on, IsOnShelf}
+use Rattle.taps_app.specs.Ready.{Ready}
+use Rattle.taps_app.specs.declared.two_files.TwoFiles.{TwoFiles}
+use Rattle.taps_app.specs.declared.two_files.TwoFiles.TheVariants.{Nothing, File, Both}
 
 -- the longest FILE and SCRIPT that are read, and the longest BYTES, in bytes
 abbrev pub most_bytes : ℕ
@@ -21,58 +24,26 @@ most_bytes = 1048576
 abbrev pub most_framed : ℕ
 most_framed = 4194304
 
--- one check and then the next, which may look at what the first gave
-infixl 10 ◌>>=◌
-abbrev pub ◌>>=◌ : {A B : Type 0} → Result A Refusal → (A → Result B Refusal) → Result B Refusal
-(Ok x) >>= f = f x
-(Err why) >>= f = Err why
+-- what a command asks of FILE besides its format: which of them it supports, and the addresses that it needs
+pub record FileRules : Type 0 where
+  pub supports : Preconnection → Bool
+  pub addresses : Preconnection → Result (List Address) Refusal
 
--- not longer than what is read
-unfoldable pub fitting : ℕ → List ℕ → Result (List ℕ) Refusal
-fitting most bytes = if nat_le (length bytes) most then Ok bytes else Err refusal.TooLong
-
-abbrev pub or_refused : Result Preconnection PreError → Result Preconnection Refusal
-or_refused (Ok pre) = Ok pre
-or_refused (Err refused) = Err (refusal.File refused)
+-- every FILE is supported
+abbrev pub any_file : Preconnection → Bool
+any_file pre = true
 
 -- nothing is sent or heard, and there is one member
 abbrev pub is_quiet : Preconnection → Bool
 is_quiet pre = (length pre.messages.items == 0) && (pre.exchange.expect == 0) && (pre.exchange.clones == 0) && (length pre.exchange.priorities.items == 0)
 
+-- the role is that of Initiate
 abbrev pub is_initiate : RunRole → Bool
 is_initiate role.Initiate = true
 is_initiate role.Listen = false
 is_initiate role.Loop = false
 
--- the session that the form asks for is one that can be held so far
-abbrev pub can_be_held : Form → Preconnection → Bool
-can_be_held (Plan file) pre = true
-can_be_held (Sim file script) pre = is_quiet pre
-can_be_held (Run file) pre = is_quiet pre && is_initiate pre.exchange.role
-can_be_held (Frame file) pre = true
-can_be_held (Unframe file bytes) pre = true
-
-abbrev pub held_so_far : Form → Preconnection → Result (Unit {0}) Refusal
-held_so_far form pre = if can_be_held form pre then Ok tt else Err refusal.NotYet
-
--- the place of the first framer of the shelf with this name, where places are counted from a number on
-abbrev pub place_from : ℕ → List ℕ → List Layer → Option ℕ
-place_from place name [] = None
-place_from place name (f ∷ fs) = if bytes_eq f.name name then Some place else place_from (place + 1) name fs
-
--- there is such a place, or the framer at this place of the file's list is not there
-abbrev pub or_unknown : ℕ → Option ℕ → Result ℕ Refusal
-or_unknown number None = Err (refusal.UnknownFramer number)
-or_unknown number (Some place) = Ok place
-
--- the places on the shelf of a file's framers, behind those that were found before
-abbrev pub places_after : List Layer → List ℕ → List (List ℕ) → Result (List ℕ) Refusal
-places_after shelf found [] = Ok found
-places_after shelf found (name ∷ names) = or_unknown (length found) (place_from 0 name shelf) >>= λ place. places_after shelf (found ++ place ∷ []) names
-
-unfoldable pub places_on : List Layer → List (List ℕ) → Result (List ℕ) Refusal
-places_on shelf names = places_after shelf [] names
-
+-- there are no more than 32 addresses
 abbrev pub at_most_32 : List Address → Result (List Address) Refusal
 at_most_32 addresses = if nat_le (length addresses) 32 then Ok addresses else Err (refusal.TooManyRemotes (length addresses))
 
@@ -80,61 +51,92 @@ at_most_32 addresses = if nat_le (length addresses) 32 then Ok addresses else Er
 unfoldable pub addresses_for : Preconnection → Result (List Address) Refusal
 addresses_for pre = at_most_32 (derived_addresses pre.hosts pre.remotes.items)
 
--- the addresses of a form that needs some
-abbrev pub addresses_in : Form → Preconnection → Result (List Address) Refusal
-addresses_in (Plan file) pre = addresses_for pre
-addresses_in (Sim file script) pre = addresses_for pre
-addresses_in (Run file) pre = addresses_for pre
-addresses_in (Frame file) pre = Ok []
-addresses_in (Unframe file bytes) pre = Ok []
+-- no addresses are needed
+abbrev pub no_addresses : Preconnection → Result (List Address) Refusal
+no_addresses pre = Ok []
 
--- what a command goes on with: the file's meaning, the places of its framers on the shelf, and its derived addresses
-pub record Ready : Type 0 where
-  pub pre : Preconnection
-  pub places : List ℕ
-  pub addresses : List Address
+-- the meaning, or the file's own refusal
+abbrev pub or_refused : Result Preconnection PreError → Result Preconnection Refusal
+or_refused (Ok pre) = Ok pre
+or_refused (Err refused) = Err (refusal.File refused)
 
--- the addresses, where the framers stand at these places
-unfoldable pub addressed : Form → Preconnection → List ℕ → Result Ready Refusal
-addressed form pre places = addresses_in form pre >>= λ addresses. Ok (record { pre = pre; places = places; addresses = addresses })
-
--- the framers, and then the addresses
-unfoldable pub shelved : List Layer → Form → Preconnection → Result Ready Refusal
-shelved shelf form pre = places_on shelf pre.framers.items >>= λ places. addressed form pre places
-
--- the checks of a Preconnection
-unfoldable pub readied : List Layer → Form → Preconnection → Result Ready Refusal
-readied shelf form pre = held_so_far form pre >>= λ _. shelved shelf form pre
-
--- what bytes that fit mean
+-- what the bytes mean
 unfoldable pub valued : List ℕ → Result Preconnection Refusal
 valued bytes = or_refused (preconnection_of bytes)
 
--- the checks of FILE
-unfoldable pub checked : List Layer → Form → List ℕ → Result Ready Refusal
-checked shelf form bytes = fitting most_bytes bytes >>= λ bytes. valued bytes >>= λ pre. readied shelf form pre
+-- it is supported, or works not yet
+abbrev pub or_not_yet : Bool → Result (Unit {0}) Refusal
+or_not_yet true = Ok tt
+or_not_yet false = Err refusal.NotYet
 
-abbrev pub or_bad_line : Result (List Line) ℕ → Result (List Line) Refusal
-or_bad_line (Ok lines) = Ok lines
-or_bad_line (Err number) = Err (refusal.Script number)
+-- the addresses, where the framers stand at these places
+unfoldable pub addressed : FileRules → Preconnection → List ℕ → Result Ready Refusal
+addressed rules pre places = rules.addresses pre >>= λ addresses. Ok (record { pre = pre; places = places; addresses = addresses })
 
--- the checks of SCRIPT
-unfoldable pub scripted : List ℕ → Result (List Line) Refusal
-scripted bytes = fitting most_bytes bytes >>= λ bytes. or_bad_line (script_of bytes)
+-- the framers, and then the addresses
+unfoldable pub shelved : FileRules → List Layer → Preconnection → Result Ready Refusal
+shelved rules shelf pre = places_on shelf pre.framers.items >>= λ places. addressed rules pre places
 
--- the checks of BYTES
-unfoldable pub framed_bytes : List ℕ → Result (List ℕ) Refusal
-framed_bytes bytes = fitting most_framed bytes
+-- whether it is supported, and then the framers and the addresses
+unfoldable pub readied : FileRules → List Layer → Preconnection → Result Ready Refusal
+readied rules shelf pre = or_not_yet (rules.supports pre) >>= λ _. shelved rules shelf pre
 
--- a check alone
-abbrev pub without_value : {A : Type 0} → Result A Refusal → Result (Unit {0}) Refusal
-without_value (Ok value) = Ok tt
-without_value (Err why) = Err why
+-- the checks of FILE, which is not too long
+unfoldable pub checked : FileRules → List Layer → List ℕ → Result Ready Refusal
+checked rules shelf bytes = valued bytes >>= λ pre. readied rules shelf pre
 
--- the checks of the file that is read behind FILE, if there is one
-abbrev pub checked_second : Form → List ℕ → Result (Unit {0}) Refusal
-checked_second (Plan file) bytes = Ok tt
-checked_second (Sim file script) bytes = without_value (scripted bytes)
-checked_second (Run file) bytes = Ok tt
-checked_second (Frame file) bytes = Ok tt
-checked_second (Unframe file name) bytes = without_value (framed_bytes bytes)
+-- what FILE gives, as the only file
+abbrev pub only_value : FileRules → List Layer → List ℕ → Result (Option Ready) Refusal
+only_value rules shelf bytes = checked rules shelf bytes >>= λ ready. Ok (Some ready)
+
+abbrev pub only_file : FileRules → List Layer → Reading (Option Ready)
+only_file rules shelf = record { limit = most_bytes; check = λ _ bytes. only_value rules shelf bytes }
+
+-- there is a value, whose framers are on the shelf
+abbrev pub HasFramers : List Layer → Option Ready → Type 0
+HasFramers shelf None = ⊥
+HasFramers shelf (Some ready) = IsOnShelf shelf ready.places
+
+-- so it is once FILE has been read
+abbrev pub HasOnly : List Layer → ℕ → Option Ready → Type 0
+HasOnly shelf zero value = ⊤
+HasOnly shelf (suc place) value = HasFramers shelf value
+
+-- what FILE gives, as the first of two files
+abbrev pub first_value : {B : Type 0} → FileRules → List Layer → List ℕ → Result (TwoFiles B) Refusal
+first_value rules shelf bytes = checked rules shelf bytes >>= λ ready. Ok (File ready)
+
+abbrev pub first_file : {B : Type 0} → FileRules → List Layer → Reading (TwoFiles B)
+first_file rules shelf = record { limit = most_bytes; check = λ _ bytes. first_value rules shelf bytes }
+
+-- what FILE gave, and what the second file gave
+abbrev pub beside : {B : Type 0} → TwoFiles B → B → TwoFiles B
+beside Nothing second = Nothing
+beside (File ready) second = Both ready second
+beside (Both ready other) second = Both ready second
+
+-- what FILE gave, with what the second file gives
+abbrev pub second_value : {B : Type 0} → TwoFiles B → Result B Refusal → Result (TwoFiles B) Refusal
+second_value value given = given >>= λ second. Ok (beside value second)
+
+-- the second file, which may have so many bytes and is checked so
+abbrev pub second_file : {B : Type 0} → ℕ → (List ℕ → Result B Refusal) → Reading (TwoFiles B)
+second_file limit check = record { limit = limit; check = λ value bytes. second_value value (check bytes) }
+
+-- there is the value of FILE alone, whose framers are on the shelf
+abbrev pub HasFirst : {B : Type 0} → List Layer → TwoFiles B → Type 0
+HasFirst shelf Nothing = ⊥
+HasFirst shelf (File ready) = IsOnShelf shelf ready.places
+HasFirst shelf (Both ready second) = ⊥
+
+-- there is that value, and one of the second file of which this holds
+abbrev pub HasSecond : {B : Type 0} → List Layer → (B → Type 0) → TwoFiles B → Type 0
+HasSecond shelf Holds Nothing = ⊥
+HasSecond shelf Holds (File ready) = ⊥
+HasSecond shelf Holds (Both ready second) = IsOnShelf shelf ready.places × Holds second
+
+-- so it is once FILE has been read, and once both have been
+abbrev pub HasBoth : {B : Type 0} → List Layer → (B → Type 0) → ℕ → TwoFiles B → Type 0
+HasBoth shelf Holds zero value = ⊤
+HasBoth shelf Holds (suc zero) value = HasFirst shelf value
+HasBoth shelf Holds (suc (suc place)) value = HasSecond shelf Holds value

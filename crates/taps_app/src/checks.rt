@@ -1,48 +1,65 @@
-ghost use Rattle.std.specs.Prelude.{◌≡◌, ◌<◌, ◌≤◌, [], ◌∷◌, ◌++◌, length, map, Ok, IfOk, OnOk, All};
-ghost use Rattle.taps_app.specs.Forms.{asked};
-ghost use Rattle.taps_app.specs.Checks as checks;
-ghost use Rattle.taps_app.specs.Checks.{checked, valued, readied, held_so_far, place_from, or_unknown, places_after, places_on, shelved, addressed, addresses_in, addresses_for, scripted};
-ghost use Rattle.taps_app.specs.Endings.{Judges, IsFit, IsOnShelf, seen};
-ghost use Rattle.taps_preconnection.specs.File.{preconnection_of};
+ghost use Rattle.std.specs.Prelude.{◌≡◌, ◌≤◌, length, Ok, IfOk};
 ghost use Rattle.taps_preconnection.specs.Limits.{IsWithin};
-ghost use Rattle.taps_socket.specs.Scripts.{script_of};
-ghost use Rattle.taps_socket.specs.ScriptNet.{at_first};
+ghost use Rattle.taps_app.specs.Checks as checks;
+ghost use Rattle.taps_app.specs.Checks.{checked, valued, readied, shelved, addressed, or_not_yet, addresses_for};
+ghost use Rattle.taps_app.specs.Meanings.{Returns};
+ghost use Rattle.taps_app.specs.Places.{IsOnShelf};
+ghost use Rattle.taps_app.specs.Shelves.{layers_on};
 
-use crate::form::Form;
+use crate::layers::Layers;
 use crate::ready::Ready;
+use crate::shelf::{Shelf, find_framers};
 use crate::stop::Unready;
+use crate::two_files::TwoFiles;
 use std::alloc::Global;
-use taps_base::{List, Name, NoMemory};
+use taps_base::List;
 use taps_endpoint::{Address, DeriveError, derive_addresses};
-use taps_framer::{Framer, name_in};
+use taps_framer::Framer;
 use taps_preconnection::{PreError, Preconnection, RunRole, read_preconnection};
-use taps_socket::{ScriptError, ScriptSockets};
 use taps_text::Refusal;
 
-/// What the bytes of FILE come to.
-#[tactic(auto, using(crate::proofs::Judging::judged_on, crate::proofs::Judging::checked_not))]
-pub fn judge(
+/// How many bytes FILE and SCRIPT may have.
+pub const MOST_BYTES: u64 = 1_048_576;
+
+/// How many bytes BYTES may have.
+pub const MOST_FRAMED: u64 = 4_194_304;
+
+/// What a command asks of FILE besides its format.
+pub trait FileRules {
+    ghost rules: { checks.FileRules };
+
+    /// Whether the command supports it.
+    fn supports(pre: &Preconnection) -> bool
+        ensures { result ≡ rules.supports pre.now };
+
+    /// The addresses that the command needs.
+    fn addresses(alloc: Global, pre: &Preconnection) -> Result<List<Address>, Unready>
+        ensures returns { Returns (λ list. list.items) (rules.addresses pre.now) result }
+        ensures few { IfOk result (λ list. length list.items ≤ 32) };
+}
+
+/// The checks of FILE: its format, whether it is supported, its framers, its addresses.
+#[tactic(auto, using(crate::proofs::FileChecks::checked_on, crate::proofs::FileChecks::checked_not))]
+pub fn check_file<R: FileRules, L: Layers>(
     alloc: Global,
-    shelf: &Vec<Box<dyn Framer>>,
-    form: &Form<'_>,
+    shelf: &Shelf<'_>,
     bytes: &[u8],
 ) -> Result<Ready, Unready>
-    requires { length bytes.now ≤ 1048576 }
-    ensures judged { Judges seen result (checked (map (λ b. layer b) shelf.now.items) (asked form.now) bytes.now) }
-    ensures fit { IfOk result (λ ready. IsFit (seen ready)) }
-    ensures on_shelf { IfOk result (λ ready. IsOnShelf (map (λ b. layer b) shelf.now.items) (seen ready)) }
+    requires { layers_on ⟦<dyn Framer as Framer>⟧ shelf.now ≡ L.layers }
+    ensures returns { Returns (λ ready. ready) (checked R.rules L.layers bytes.now) result }
+    ensures on_shelf { IfOk result (λ ready. IsOnShelf L.layers ready.places) }
 {
-    match value(alloc, bytes) {
-        Ok(pre) => ready(alloc, shelf, form, pre),
+    match read_value(alloc, bytes) {
+        Ok(pre) => check_value::<R, L>(alloc, shelf, pre),
         Err(Unready::Refused(why)) => Err(Unready::Refused(why)),
         Err(Unready::NoMemory) => Err(Unready::NoMemory),
     }
 }
 
-// What they mean.
+// What the bytes mean.
 #[tactic(auto, unfolding(crate::specs::Checks::valued))]
-fn value(alloc: Global, bytes: &[u8]) -> Result<Preconnection, Unready>
-    ensures judged { Judges (λ pre. pre) result (valued bytes.now) }
+fn read_value(alloc: Global, bytes: &[u8]) -> Result<Preconnection, Unready>
+    ensures returns { Returns (λ pre. pre) (valued bytes.now) result }
     ensures within { IfOk result IsWithin }
 {
     match read_preconnection(alloc, bytes) {
@@ -52,53 +69,61 @@ fn value(alloc: Global, bytes: &[u8]) -> Result<Preconnection, Unready>
     }
 }
 
+// The checks after the format.
 #[tactic(auto, unfolding(crate::specs::Checks::readied))]
-fn ready(
+fn check_value<R: FileRules, L: Layers>(
     alloc: Global,
-    shelf: &Vec<Box<dyn Framer>>,
-    form: &Form<'_>,
+    shelf: &Shelf<'_>,
     pre: Preconnection,
 ) -> Result<Ready, Unready>
-    requires { IsWithin pre }
-    ensures judged { Judges seen result (readied (map (λ b. layer b) shelf.now.items) (asked form.now) pre) }
-    ensures fit { IfOk result (λ ready. IsFit (seen ready)) }
-    ensures on_shelf { IfOk result (λ ready. IsOnShelf (map (λ b. layer b) shelf.now.items) (seen ready)) }
+    requires shelf { layers_on ⟦<dyn Framer as Framer>⟧ shelf.now ≡ L.layers }
+    requires within { IsWithin pre }
+    ensures returns { Returns (λ ready. ready) (readied R.rules L.layers pre) result }
+    ensures on_shelf { IfOk result (λ ready. IsOnShelf L.layers ready.places) }
 {
-    hold_so_far(form, &pre)?;
-    shelve(alloc, shelf, form, pre)
+    support::<R>(&pre)?;
+    place::<R, L>(alloc, shelf, pre)
 }
 
-#[tactic(auto, using(crate::proofs::Judging::shelved_on))]
-fn shelve(
+fn support<R: FileRules>(pre: &Preconnection) -> Result<(), Unready>
+    ensures { Returns (λ unit. unit) (or_not_yet (R.rules.supports pre.now)) result }
+{
+    if R::supports(pre) {
+        Ok(())
+    } else {
+        Err(Unready::Refused(Refusal::NotYet))
+    }
+}
+
+// The framers, and then the addresses.
+#[tactic(auto, using(crate::proofs::FileChecks::shelved_on))]
+fn place<R: FileRules, L: Layers>(
     alloc: Global,
-    shelf: &Vec<Box<dyn Framer>>,
-    form: &Form<'_>,
+    shelf: &Shelf<'_>,
     pre: Preconnection,
 ) -> Result<Ready, Unready>
-    requires { IsWithin pre }
-    ensures judged { Judges seen result (shelved (map (λ b. layer b) shelf.now.items) (asked form.now) pre) }
-    ensures fit { IfOk result (λ ready. IsFit (seen ready)) }
-    ensures on_shelf { IfOk result (λ ready. IsOnShelf (map (λ b. layer b) shelf.now.items) (seen ready)) }
+    requires shelf { layers_on ⟦<dyn Framer as Framer>⟧ shelf.now ≡ L.layers }
+    requires within { IsWithin pre }
+    ensures returns { Returns (λ ready. ready) (shelved R.rules L.layers pre) result }
+    ensures on_shelf { IfOk result (λ ready. IsOnShelf L.layers ready.places) }
 {
-    match find_framers(alloc, shelf, &pre) {
-        Ok(places) => address(alloc, form, pre, places),
+    match find_framers::<L>(alloc, shelf, &pre) {
+        Ok(places) => address::<R>(alloc, pre, places),
         Err(unready) => Err(unready),
     }
 }
 
 #[tactic(auto, unfolding(crate::specs::Checks::addressed))]
-fn address(
+fn address<R: FileRules>(
     alloc: Global,
-    form: &Form<'_>,
     pre: Preconnection,
     places: Vec<usize>,
 ) -> Result<Ready, Unready>
     requires { IsWithin pre }
-    ensures judged { Judges seen result (addressed (asked form.now) pre places.items) }
-    ensures fit { IfOk result (λ ready. IsFit (seen ready)) }
-    ensures places { IfOk result (λ ready. ready.places.items ≡ places.items) }
+    ensures returns { Returns (λ ready. ready) (addressed R.rules pre places.items) result }
+    ensures places { IfOk result (λ ready. ready.places ≡ places.items) }
 {
-    let addresses = addresses(alloc, form, &pre)?;
+    let addresses = R::addresses(alloc, &pre)?;
     Ok(Ready {
         pre,
         places,
@@ -106,28 +131,8 @@ fn address(
     })
 }
 
-fn hold_so_far(form: &Form<'_>, pre: &Preconnection) -> Result<(), Unready>
-    ensures { Judges (λ unit. unit) result (held_so_far (asked form.now) pre.now) }
-{
-    if can_be_held(form, pre) {
-        Ok(())
-    } else {
-        Err(Unready::Refused(Refusal::NotYet))
-    }
-}
-
-fn can_be_held(form: &Form<'_>, pre: &Preconnection) -> bool
-    ensures { result ≡ checks.can_be_held (asked form.now) pre.now }
-{
-    match form {
-        Form::Plan { .. } => true,
-        Form::Sim { .. } => is_quiet(pre),
-        Form::Run { .. } => is_quiet(pre) && is_initiate(pre.exchange.role),
-        Form::Frame { .. } | Form::Unframe { .. } => true,
-    }
-}
-
-fn is_quiet(pre: &Preconnection) -> bool
+/// Whether nothing is sent or heard, and there is one member.
+pub fn is_quiet(pre: &Preconnection) -> bool
     ensures { result ≡ checks.is_quiet pre.now }
 {
     let exchange = &pre.exchange;
@@ -137,7 +142,8 @@ fn is_quiet(pre: &Preconnection) -> bool
         && exchange.priorities.len() == 0
 }
 
-fn is_initiate(role: RunRole) -> bool
+/// Whether the role is that of Initiate.
+pub fn is_initiate(role: RunRole) -> bool
     ensures { result ≡ checks.is_initiate role }
 {
     match role {
@@ -147,81 +153,10 @@ fn is_initiate(role: RunRole) -> bool
     }
 }
 
-#[tactic(auto, unfolding(crate::specs::Checks::places_on), using(crate::proofs::Places::few_places, crate::proofs::Places::places_within))]
-fn find_framers(
-    alloc: Global,
-    shelf: &Vec<Box<dyn Framer>>,
-    pre: &Preconnection,
-) -> Result<Vec<usize>, Unready>
-    requires { length pre.now.framers.items ≤ 8 }
-    ensures judged { Judges (λ places. places.items) result (places_on (map (λ b. layer b) shelf.now.items) pre.now.framers.items) }
-    ensures few { IfOk result (λ places. length places.items ≤ 8) }
-    ensures within { IfOk result (λ places. All (λ place. place < length (map (λ b. layer b) shelf.now.items)) places.items) }
-{
-    match find_all(alloc, shelf, pre.framers.as_slice()) {
-        Ok(places) => Ok(places),
-        Err(Unready::Refused(why)) => Err(Unready::Refused(why)),
-        Err(Unready::NoMemory) => Err(Unready::NoMemory),
-    }
-}
-
-fn find_all(
-    alloc: Global,
-    shelf: &Vec<Box<dyn Framer>>,
-    names: &[Name],
-) -> Result<Vec<usize>, Unready>
-    ensures { Judges (λ places. places.items) result (places_after (map (λ b. layer b) shelf.now.items) [] names.now) }
-{
-    let mut places = Vec::new(alloc);
-    for name in names {
-        let place = find(shelf, name, places.len())?;
-        if let Err(NoMemory) = add(&mut places, place) {
-            return Err(Unready::NoMemory);
-        }
-    }
-    Ok(places)
-}
-
-fn add(places: &mut Vec<usize>, place: usize) -> Result<(), NoMemory>
-    ensures { OnOk result (places.new.items ≡ places.old.items ++ place ∷ []) }
-{
-    Ok(places.push(place)?)
-}
-
-// The place of the first framer with this name, which is the one at this place of the file's list.
-fn find(shelf: &Vec<Box<dyn Framer>>, name: &Name, number: usize) -> Result<usize, Unready>
-    ensures { Judges (λ place. place) result (or_unknown number (place_from 0 name.now (map (λ b. layer b) shelf.now.items))) }
-{
-    match place_of(shelf, name.bytes()) {
-        Some(place) => Ok(place),
-        None => Err(Unready::Refused(Refusal::UnknownFramer(number as u64))),
-    }
-}
-
-fn place_of(shelf: &Vec<Box<dyn Framer>>, name: &[u8]) -> Option<usize>
-    ensures { result ≡ place_from 0 name.now (map (λ b. layer b) shelf.now.items) }
-{
-    for (place, framer) in shelf.iter().enumerate() {
-        if name_in(framer).as_bytes() == name {
-            return Some(place);
-        }
-    }
-    None
-}
-
-fn addresses(alloc: Global, form: &Form<'_>, pre: &Preconnection) -> Result<List<Address>, Unready>
-    ensures judged { Judges (λ list. list.items) result (addresses_in (asked form.now) pre.now) }
-    ensures few { IfOk result (λ list. length list.items ≤ 32) }
-{
-    match form {
-        Form::Plan { .. } | Form::Sim { .. } | Form::Run { .. } => derive(alloc, pre),
-        Form::Frame { .. } | Form::Unframe { .. } => Ok(List::new(alloc)),
-    }
-}
-
+/// The addresses of the remotes, each once, of which there may be 32.
 #[tactic(auto, unfolding(crate::specs::Checks::addresses_for))]
-fn derive(alloc: Global, pre: &Preconnection) -> Result<List<Address>, Unready>
-    ensures judged { Judges (λ list. list.items) result (addresses_for pre.now) }
+pub fn derive(alloc: Global, pre: &Preconnection) -> Result<List<Address>, Unready>
+    ensures returns { Returns (λ list. list.items) (addresses_for pre.now) result }
     ensures few { IfOk result (λ list. length list.items ≤ 32) }
 {
     match derive_addresses(alloc, &pre.remotes, &pre.hosts) {
@@ -231,16 +166,36 @@ fn derive(alloc: Global, pre: &Preconnection) -> Result<List<Address>, Unready>
     }
 }
 
-/// What the bytes of SCRIPT come to.
-#[tactic(auto, using(crate::proofs::Judging::scripted_of_lines, crate::proofs::Judging::scripted_of_bad))]
-pub fn judge_script(alloc: Global, bytes: &[u8]) -> Result<ScriptSockets, Unready>
-    requires { length bytes.now ≤ 1048576 }
-    ensures judged { Judges (λ sockets. sockets.lines) result (scripted bytes.now) }
-    ensures first { IfOk result (λ sockets. sockets ≡ at_first sockets.lines) }
+/// What FILE gives as the only file.
+pub fn check_only<R: FileRules, L: Layers>(
+    alloc: Global,
+    shelf: &Shelf<'_>,
+    bytes: &[u8],
+) -> Result<Option<Ready>, Unready>
+    requires { layers_on ⟦<dyn Framer as Framer>⟧ shelf.now ≡ L.layers }
+    ensures returns { Returns (λ value. value) (checks.only_value R.rules L.layers bytes.now) result }
+    ensures on_shelf { IfOk result (λ value. checks.HasFramers L.layers value) }
 {
-    match ScriptSockets::read(alloc, bytes) {
-        Ok(sockets) => Ok(sockets),
-        Err(ScriptError::Line(number)) => Err(Unready::Refused(Refusal::Script(number))),
-        Err(ScriptError::NoMemory) => Err(Unready::NoMemory),
+    match check_file::<R, L>(alloc, shelf, bytes) {
+        Ok(ready) => Ok(Some(ready)),
+        Err(Unready::Refused(why)) => Err(Unready::Refused(why)),
+        Err(Unready::NoMemory) => Err(Unready::NoMemory),
+    }
+}
+
+/// What FILE gives as the first of two.
+pub fn check_first<R: FileRules, L: Layers, T: Drop>(
+    alloc: Global,
+    shelf: &Shelf<'_>,
+    bytes: &[u8],
+) -> Result<TwoFiles<T>, Unready>
+    requires { layers_on ⟦<dyn Framer as Framer>⟧ shelf.now ≡ L.layers }
+    ensures returns { Returns (λ value. value) (checks.first_value R.rules L.layers bytes.now) result }
+    ensures on_shelf { IfOk result (λ value. checks.HasFirst L.layers value) }
+{
+    match check_file::<R, L>(alloc, shelf, bytes) {
+        Ok(ready) => Ok(TwoFiles::File(ready)),
+        Err(Unready::Refused(why)) => Err(Unready::Refused(why)),
+        Err(Unready::NoMemory) => Err(Unready::NoMemory),
     }
 }

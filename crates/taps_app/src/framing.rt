@@ -1,75 +1,85 @@
-ghost use Rattle.std.specs.Prelude.{◌≡◌, ◌<◌, ◌≤◌, length, map, slice_get, Some, IfOk, All};
-ghost use Rattle.taps_chain.specs.Layers.{layers_of};
+ghost use Rattle.std.specs.Prelude.{◌≡◌, ◌≤◌, [], ◌∷◌, ◌++◌, length, map, IfOk, OnOk};
 ghost use Rattle.taps_app.specs.Checks.{most_framed};
-ghost use Rattle.taps_app.specs.Texts.{HasText, chain_of, status_if, IsFramed, IsHeardText};
-ghost use Rattle.taps_app.specs.Endings.{IsFit, IsOnShelf, seen};
+ghost use Rattle.taps_app.specs.Frame.{bodies_of, IsFramed, status_if};
+ghost use Rattle.taps_app.specs.Meanings.{HasText};
+ghost use Rattle.taps_app.specs.Places.{IsOnShelf};
+ghost use Rattle.taps_app.specs.Shelves.{layers_on};
+ghost use Rattle.taps_app.specs.Unframe.{IsDecoded};
 
+use crate::layers::Layers;
 use crate::printed::Printed;
 use crate::ready::Ready;
+use crate::shelf::{Shelf, chain};
 use crate::status::status_if;
 use std::alloc::Global;
-use taps_base::NoMemory;
-use taps_chain::Chain;
+use taps_base::{Body, NoMemory};
+use taps_frame_text::{FrameText, frame_text, unframe_text};
 use taps_framer::Framer;
-use taps_framing::{Framed, frame_text, unframe_text};
+use taps_preconnection::MessageSpec;
 
-/// The chained bytes of the file's messages.
-pub fn frame(
+/// The frames of the file's messages.
+pub fn print_frames<L: Layers>(
     alloc: Global,
+    shelf: &Shelf<'_>,
     ready: &Ready,
-    shelf: &Vec<Box<dyn Framer>>,
 ) -> Result<Printed, NoMemory>
-    requires fit { IsFit (seen ready.now) }
-    requires on_shelf { IsOnShelf (map (λ b. layer b) shelf.now.items) (seen ready.now) }
-    ensures framed { IfOk result (λ printed. IsFramed (map (λ b. layer b) shelf.now.items) (seen ready.now) printed.text.items printed.status) }
+    requires shelf { layers_on ⟦<dyn Framer as Framer>⟧ shelf.now ≡ L.layers }
+    requires on_shelf { IsOnShelf L.layers ready.now.places }
+    ensures framed { IfOk result (λ printed. IsFramed L.layers ready.now printed.text.items printed.status) }
     ensures has_text { IfOk result (λ printed. HasText printed.status) }
 {
-    let chain = chain(alloc, ready, shelf)?;
-    let framed = frame_text(alloc, &chain, ready.pre.messages.as_slice())?;
+    let chain = chain::<L>(alloc, shelf, &ready.places)?;
+    let bodies = bodies(alloc, ready.pre.messages.as_slice())?;
+    let framed = frame_text(alloc, &chain, &bodies)?;
     Ok(printed(framed))
 }
 
-/// The messages of bytes through the chain of the file's framers.
-pub fn unframe(
+/// The messages that bytes decode to through the chain of the file's framers.
+pub fn print_messages<L: Layers>(
     alloc: Global,
+    shelf: &Shelf<'_>,
     ready: &Ready,
-    shelf: &Vec<Box<dyn Framer>>,
     bytes: &[u8],
 ) -> Result<Printed, NoMemory>
-    requires fit { IsFit (seen ready.now) }
-    requires on_shelf { IsOnShelf (map (λ b. layer b) shelf.now.items) (seen ready.now) }
+    requires shelf { layers_on ⟦<dyn Framer as Framer>⟧ shelf.now ≡ L.layers }
+    requires on_shelf { IsOnShelf L.layers ready.now.places }
     requires few { length bytes.now ≤ most_framed }
-    ensures heard { IfOk result (λ printed. IsHeardText (map (λ b. layer b) shelf.now.items) (seen ready.now) bytes.now printed.text.items printed.status) }
+    ensures decoded { IfOk result (λ printed.
+        IsDecoded L.layers ready.now bytes.now printed.text.items printed.status) }
     ensures has_text { IfOk result (λ printed. HasText printed.status) }
 {
-    let chain = chain(alloc, ready, shelf)?;
+    let chain = chain::<L>(alloc, shelf, &ready.places)?;
     let framed = unframe_text(alloc, chain, bytes, ready.pre.exchange.piece)?;
     Ok(printed(framed))
 }
 
-// The chain of the file's framers.
-#[tactic(auto, using(crate::proofs::Places::layers_there))]
-fn chain<'a>(
-    alloc: Global,
-    ready: &Ready,
-    shelf: &'a Vec<Box<dyn Framer>>,
-) -> Result<Chain<'a>, NoMemory>
-    requires { IsOnShelf (map (λ b. layer b) shelf.now.items) (seen ready.now) }
-    ensures { IfOk result (λ chain. layers_of ⟦<dyn Framer as Framer>⟧ chain ≡ chain_of (map (λ b. layer b) shelf.now.items) (seen ready.now)) }
-{
-    let chain = Chain::new(alloc, shelf, &ready.places)?;
-    Ok(chain)
-}
-
 #[tactic(auto, using(crate::proofs::Places::text_if))]
-fn printed(framed: Framed) -> Printed
+fn printed(framed: FrameText) -> Printed
     ensures text { result.text ≡ framed.text }
     ensures status { result.status ≡ status_if framed.whole }
     ensures has_text { HasText result.status }
 {
-    let Framed { text, whole } = framed;
+    let FrameText { text, whole } = framed;
     Printed {
         text,
         status: status_if(whole),
     }
+}
+
+// The bodies of messages.
+fn bodies(alloc: Global, messages: &[MessageSpec]) -> Result<Vec<&Body>, NoMemory>
+    ensures { IfOk result (λ bodies. map (λ body. body.now) bodies.items ≡ bodies_of messages.now) }
+{
+    let mut bodies = Vec::new(alloc);
+    for message in messages {
+        put_body(&mut bodies, message)?;
+    }
+    Ok(bodies)
+}
+
+fn put_body<'a>(bodies: &mut Vec<&'a Body>, message: &'a MessageSpec) -> Result<(), NoMemory>
+    ensures { OnOk result (map (λ body. body.now) bodies.new.items ≡
+        map (λ body. body.now) bodies.old.items ++ message.now.body ∷ []) }
+{
+    Ok(bodies.push(&message.body)?)
 }

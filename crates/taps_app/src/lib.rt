@@ -1,19 +1,29 @@
-//! The top call: from the words of a command line to the text on the output, the line on the error
-//! output and the status.
+//! The top call: from the arguments of a command line to the text on the output, the line on the
+//! error output and the status.
+//!
+//! A command is one record in `specs/`, which says what it reads and writes, and one module in
+//! `commands`, which does so. All else is stated and proved once, for any command.
 #![tactic(auto)]
 
+mod carry;
 mod checks;
 mod command;
+mod commands;
 mod error_line;
-mod form;
 mod framing;
+mod gather;
+mod kind;
+mod layers;
+mod nets;
 mod plan;
 mod printed;
-mod reading;
 mod ready;
 mod session;
+mod shelf;
 mod status;
 mod stop;
+mod top;
+mod two_files;
 
-pub use command::run;
 pub use status::Status;
+pub use top::run;

@@ -1,11 +1,11 @@
-ghost use Rattle.std.specs.Prelude.{◌≡◌, ◌<◌, ◌≤◌, length, map, IfOk, All};
-ghost use Rattle.taps_candidate.specs.Plan.{listed};
-ghost use Rattle.taps_racer.specs.Kept.{IsShort};
-ghost use Rattle.taps_app.specs.Sessions as sessions;
-ghost use Rattle.taps_app.specs.Sessions.{initiated, text_of};
-ghost use Rattle.taps_app.specs.Endings.{IsFit, seen, IsPlanFor};
+ghost use Rattle.std.specs.Prelude.{◌≡◌, ◌<◌, ◌≤◌, length, map, IfOk, Ok, All};
+ghost use Rattle.taps_app.specs.Meanings.{HasText};
+ghost use Rattle.taps_app.specs.Plan.{PrintsPlan};
+ghost use Rattle.taps_app.specs.Sessions.{text_of, IsPlanFor};
 
+use crate::printed::Printed;
 use crate::ready::Ready;
+use crate::status::Status;
 use std::alloc::Global;
 use taps_base::NoMemory;
 use taps_candidate::{Leaf, Plan, build_plan, plan_string};
@@ -15,8 +15,7 @@ use taps_socket::Target;
 /// The plan of Initiate.
 #[tactic(auto, using(crate::proofs::Plans::short_gaps))]
 pub fn initiate(alloc: Global, ready: &Ready) -> Result<Plan, NoMemory>
-    requires { IsFit (seen ready.now) }
-    ensures { IfOk result (λ plan. IsPlanFor (seen ready.now) plan) }
+    ensures { IfOk result (λ plan. IsPlanFor ready.now plan) }
 {
     build_plan(alloc, &ready.pre, Role::Initiate, &ready.addresses)
 }
@@ -24,20 +23,23 @@ pub fn initiate(alloc: Global, ready: &Ready) -> Result<Plan, NoMemory>
 /// Its text.
 #[tactic(auto, unfolding(crate::specs::Sessions::text_of))]
 pub fn text(alloc: Global, ready: &Ready, plan: &Plan) -> Result<Vec<u8>, NoMemory>
-    requires plan { IsPlanFor (seen ready.now) plan.now }
-    ensures { IfOk result (λ text. text.items ≡ text_of (seen ready.now)) }
+    requires plan { IsPlanFor ready.now plan.now }
+    ensures { IfOk result (λ text. text.items ≡ text_of ready.now) }
 {
     let text = plan_string(alloc, &ready.pre, plan)?;
     Ok(text.into_bytes())
 }
 
-/// The text of the plan of Initiate.
-pub fn plan_text(alloc: Global, ready: &Ready) -> Result<Vec<u8>, NoMemory>
-    requires { IsFit (seen ready.now) }
-    ensures { IfOk result (λ text. text.items ≡ text_of (seen ready.now)) }
+/// The text of the plan of Initiate, with its status.
+pub fn print_plan(alloc: Global, ready: &Ready) -> Result<Printed, NoMemory>
+    ensures prints { IfOk result (λ printed. PrintsPlan (Some ready.now) printed.text.items printed.status) }
+    ensures has_text { IfOk result (λ printed. HasText printed.status) }
 {
     let plan = initiate(alloc, ready)?;
-    text(alloc, ready, &plan)
+    Ok(Printed {
+        text: text(alloc, ready, &plan)?,
+        status: Status::Done,
+    })
 }
 
 /// What its leaves try.

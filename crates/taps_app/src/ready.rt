@@ -1,8 +1,9 @@
+use std::marker::Model;
 use taps_base::List;
 use taps_endpoint::Address;
 use taps_preconnection::Preconnection;
 
-/// What a command goes on with once FILE has passed its checks.
+/// What FILE gives a command once it has passed its checks. It keeps the limits of a race.
 #[derive(Drop)]
 pub struct Ready {
     pub pre: Preconnection,
@@ -10,4 +11,16 @@ pub struct Ready {
     pub places: Vec<usize>,
     /// Those of the remotes, each once.
     pub addresses: List<Address>,
+}
+
+impl Model for Ready {
+    ghost use Rattle.taps_app.specs.Ready as specs;
+    ghost use Rattle.std.specs.Prelude.{◌≤◌, length};
+    ghost use Rattle.taps_preconnection.specs.Limits.{IsWithin};
+
+    ghost Value = { specs.Ready };
+
+    ghost view = { λ r. record { pre = r.pre; places = r.places.items; addresses = r.addresses.items } };
+
+    ghost invariant = { λ r. IsWithin r.pre × (length r.addresses.items ≤ 32) };
 }

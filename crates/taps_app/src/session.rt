@@ -1,14 +1,13 @@
 ghost use Rattle.std.specs.Prelude.{◌≡◌, ◌≤◌, ◌<◌, [], length, IfOk, OnErr, All};
-ghost use Rattle.taps_candidate.specs.Plan.{listed};
-ghost use Rattle.taps_racer.specs.Kept.{IsShort};
-ghost use Rattle.taps_session.specs.Sessions.{closes_of, IsSession, IsClosedOnce};
 ghost use Rattle.taps_base.specs.Counts.{Rose};
-ghost use Rattle.taps_app.specs.Sessions.{initiated, rules_of, targets_of, status_by, log_text, IsLogged, IsSimulated};
-ghost use Rattle.taps_app.specs.Texts.{HasText};
-ghost use Rattle.taps_app.specs.Endings.{IsFit, seen, IsPlanFor, IsRaced};
-ghost use Rattle.taps_app.specs.declared.status.Status.TheVariants as status;
-ghost use Rattle.taps_socket.specs.ScriptNet.{at_first};
+ghost use Rattle.taps_session.specs.Sessions.{closes_of, IsSession, IsClosedOnce};
+ghost use Rattle.taps_socket.specs.Net.{with_spare};
+ghost use Rattle.taps_script.specs.ScriptNet.{at_first};
+ghost use Rattle.taps_app.specs.Nets.{HandsOn};
+ghost use Rattle.taps_app.specs.Meanings.{HasText};
+ghost use Rattle.taps_app.specs.Sessions.{rules_of, targets_of, status_by, log_text, IsLoggedOn, IsSimulated, LeavesSession, IsPlanFor};
 
+use crate::nets::vouch_untouched;
 use crate::plan::{initiate, targets, text};
 use crate::printed::Printed;
 use crate::ready::Ready;
@@ -16,90 +15,91 @@ use crate::status::status_by;
 use std::alloc::Global;
 use taps_base::NoMemory;
 use taps_candidate::Plan;
+use taps_script::{ScriptSockets, vouch_for_script};
 use taps_session::{Session, hold};
-use taps_socket::{ScriptSockets, Sockets};
+use taps_socket::Sockets;
 use taps_text::{Outcome, put_log};
 
-/// Holds the session over the plan of Initiate, and gives its log. The log is made behind all closes.
+/// Runs the session over the plan of Initiate, and gives its log. The log is made after all closes.
 #[tactic(auto, using(crate::proofs::Logs::not_raced))]
 pub fn session_text<N: Sockets>(
     alloc: Global,
     ready: &Ready,
     net: &mut N,
 ) -> Result<Printed, NoMemory>
-    requires fit { IsFit (seen ready.now) }
     requires fresh { (N.net net.old).trace ≡ [] }
-    ensures logged { IfOk result (λ printed. IsLogged (seen ready.now) (N.net net.new).trace printed.text.items printed.status) }
+    ensures logged { IfOk result (λ printed.
+        IsLoggedOn ready.now (N.net net.old) (N.net net.new) printed.text.items printed.status) }
     ensures has_text { IfOk result (λ printed. HasText printed.status) }
-    ensures fault { IfOk result (λ printed. printed.status ≡ status.SocketFault → Rose (N.net net.old).faults (N.net net.new).faults) }
-    ensures raced { IsRaced (seen ready.now) (N.net net.new).trace }
+    ensures leaves { LeavesSession ready.now (N.net net.old) (N.net net.new) }
     ensures closed_once { IsClosedOnce (N.net net.new).trace }
-    ensures becomes { N.Becomes net.old net.new }
+    ensures becomes { HandsOn N.Becomes net.old net.new (N.net net.old) (N.net net.new) }
 {
+    vouch_untouched::<N>(net);
     let plan = initiate(alloc, ready)?;
-    hold_and_log(alloc, ready, &plan, net)
+    run_and_log(alloc, ready, &plan, net)
 }
 
 // The same for a plan that is made.
-#[tactic(auto, using(crate::proofs::Logs::logged_of, crate::proofs::Logs::text_by, crate::proofs::Logs::fault_of))]
-fn hold_and_log<N: Sockets>(
+#[tactic(auto, using(crate::proofs::Logs::logged_of, crate::proofs::Logs::text_by))]
+fn run_and_log<N: Sockets>(
     alloc: Global,
     ready: &Ready,
     plan: &Plan,
     net: &mut N,
 ) -> Result<Printed, NoMemory>
-    requires fit { IsFit (seen ready.now) }
-    requires plan { IsPlanFor (seen ready.now) plan.now }
+    requires plan { IsPlanFor ready.now plan.now }
     requires fresh { (N.net net.old).trace ≡ [] }
-    ensures logged { IfOk result (λ printed. IsLogged (seen ready.now) (N.net net.new).trace printed.text.items printed.status) }
+    ensures logged { IfOk result (λ printed.
+        IsLoggedOn ready.now (N.net net.old) (N.net net.new) printed.text.items printed.status) }
     ensures has_text { IfOk result (λ printed. HasText printed.status) }
-    ensures fault { IfOk result (λ printed. printed.status ≡ status.SocketFault → Rose (N.net net.old).faults (N.net net.new).faults) }
-    ensures raced { IsRaced (seen ready.now) (N.net net.new).trace }
+    ensures leaves { LeavesSession ready.now (N.net net.old) (N.net net.new) }
     ensures closed_once { IsClosedOnce (N.net net.new).trace }
-    ensures becomes { N.Becomes net.old net.new }
+    ensures becomes { HandsOn N.Becomes net.old net.new (N.net net.old) (N.net net.new) }
 {
-    let session = hold_over(alloc, ready, plan, net)?;
+    let session = run_session(alloc, ready, plan, net)?;
     let printed = log(alloc, ready, plan, &session)?;
     Ok(printed)
 }
 
-// Holds the session over a plan.
+// Runs the session, and says what it leaves: on its own, since the two arms lose that where they join.
 #[tactic(auto, using(crate::proofs::Logs::raced_of, crate::proofs::Logs::not_raced))]
-fn hold_over<N: Sockets>(
+fn run_session<N: Sockets>(
     alloc: Global,
     ready: &Ready,
     plan: &Plan,
     net: &mut N,
 ) -> Result<Session, NoMemory>
-    requires fit { IsFit (seen ready.now) }
-    requires plan { IsPlanFor (seen ready.now) plan.now }
+    requires plan { IsPlanFor ready.now plan.now }
     requires fresh { (N.net net.old).trace ≡ [] }
-    ensures session { IfOk result (λ s. IsSession (rules_of (seen ready.now)) (targets_of (seen ready.now)) (N.net net.old) (N.net net.new) s) }
-    ensures raced { IsRaced (seen ready.now) (N.net net.new).trace }
+    ensures session { IfOk result (λ s.
+        IsSession (rules_of ready.now) (targets_of ready.now) (N.net net.old) (N.net net.new) s) }
+    ensures leaves { LeavesSession ready.now (N.net net.old) (N.net net.new) }
     ensures closed_once { IsClosedOnce (N.net net.new).trace }
-    ensures becomes { N.Becomes net.old net.new }
+    ensures becomes { HandsOn N.Becomes net.old net.new (N.net net.old) (N.net net.new) }
 {
-    match hold_plan(alloc, ready, plan, net) {
+    match run_plan(alloc, ready, plan, net) {
         Ok(session) => Ok(session),
         Err(none) => Err(none),
     }
 }
 
 // The call of the layer below.
-fn hold_plan<N: Sockets>(
+fn run_plan<N: Sockets>(
     alloc: Global,
     ready: &Ready,
     plan: &Plan,
     net: &mut N,
 ) -> Result<Session, NoMemory>
-    requires fit { IsFit (seen ready.now) }
-    requires plan { IsPlanFor (seen ready.now) plan.now }
+    requires plan { IsPlanFor ready.now plan.now }
     requires fresh { (N.net net.old).trace ≡ [] }
-    ensures session { IfOk result (λ s. IsSession (rules_of (seen ready.now)) (targets_of (seen ready.now)) (N.net net.old) (N.net net.new) s) }
-    ensures nothing_begun { OnErr result ((N.net net.new).trace ≡ []) }
+    ensures session { IfOk result (λ s.
+        IsSession (rules_of ready.now) (targets_of ready.now) (N.net net.old) (N.net net.new) s) }
+    ensures nothing_begun { OnErr result (N.net net.new ≡ with_spare (N.net net.old) (N.net net.new).spare) }
     ensures closed_once { IsClosedOnce (N.net net.new).trace }
-    ensures becomes { N.Becomes net.old net.new }
+    ensures becomes { HandsOn N.Becomes net.old net.new (N.net net.old) (N.net net.new) }
 {
+    vouch_untouched::<N>(net);
     let targets = targets(alloc, plan.leaves.as_slice())?;
     let race = &ready.pre.race;
     hold(
@@ -112,12 +112,13 @@ fn hold_plan<N: Sockets>(
     )
 }
 
-// The log of a session that was held.
+// The log of a session that ran.
 #[tactic(auto, unfolding(crate::specs::Sessions::log_text))]
 fn log(alloc: Global, ready: &Ready, plan: &Plan, session: &Session) -> Result<Printed, NoMemory>
-    requires plan { IsPlanFor (seen ready.now) plan.now }
+    requires plan { IsPlanFor ready.now plan.now }
     requires closes { session.now.after ≡ closes_of session.now.answer }
-    ensures log { IfOk result (λ printed. printed.text.items ≡ log_text (seen ready.now) session.now.race session.now.answer) }
+    ensures log { IfOk result (λ printed.
+        printed.text.items ≡ log_text ready.now session.now.race session.now.answer) }
     ensures status { IfOk result (λ printed. printed.status ≡ status_by session.now.answer) }
 {
     let answer = session.answer();
@@ -135,15 +136,18 @@ fn log(alloc: Global, ready: &Ready, plan: &Plan, session: &Session) -> Result<P
     })
 }
 
-/// Holds the session on the sockets of a script.
-#[tactic(auto, using(crate::proofs::Logs::starts_empty, crate::proofs::Logs::simulated_of))]
+/// Runs the session on scripted sockets.
+#[tactic(auto, using(crate::proofs::Logs::starts_empty))]
 pub fn simulate(alloc: Global, ready: &Ready, sockets: ScriptSockets) -> Result<Printed, NoMemory>
-    requires fit { IsFit (seen ready.now) }
     requires first { sockets ≡ at_first sockets.lines }
-    ensures simulated { IfOk result (λ printed. IsSimulated (seen ready.now) sockets.lines printed.text.items printed.status) }
+    ensures simulated { IfOk result (λ printed.
+        IsSimulated ready.now sockets.lines printed.text.items printed.status) }
     ensures has_text { IfOk result (λ printed. HasText printed.status) }
 {
     let mut sockets = sockets;
-    sockets.vouch();
-    session_text(alloc, ready, &mut sockets)
+    vouch_for_script(&sockets);
+    match session_text(alloc, ready, &mut sockets) {
+        Ok(printed) => Ok(printed),
+        Err(none) => Err(none),
+    }
 }

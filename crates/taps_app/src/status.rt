@@ -1,7 +1,7 @@
 ghost use Rattle.std.specs.Prelude.{◌≡◌};
 ghost use Rattle.taps_app.specs.Codes.{code_of};
 ghost use Rattle.taps_app.specs.Sessions.{status_by};
-ghost use Rattle.taps_app.specs.Texts as texts;
+ghost use Rattle.taps_app.specs.Frame as frame;
 
 use taps_socket::RaceAnswer;
 
@@ -10,7 +10,7 @@ use taps_socket::RaceAnswer;
 pub enum Status {
     /// The command did all of its work.
     Done,
-    /// The words are no form.
+    /// There is no such command, or it has other files.
     Usage,
     /// A file fails a check.
     Refused,
@@ -66,7 +66,7 @@ pub fn status_by(answer: RaceAnswer) -> Status
 
 /// The status of messages that went through a chain.
 pub fn status_if(whole: bool) -> Status
-    ensures { result ≡ texts.status_if whole }
+    ensures { result ≡ frame.status_if whole }
 {
     if whole {
         Status::Done

@@ -1,44 +1,22 @@
-ghost use Rattle.std.specs.Prelude.{◌≡◌};
-ghost use Rattle.taps_app.specs.declared.stop.Stop.TheVariants as stops;
-
-use taps_base::NoMemory;
 use taps_text::Refusal;
 
-/// Which of a form's files is read.
-#[derive(Clone, Copy, Debug, PartialEq, Eq)]
-pub enum Reading {
-    /// FILE.
-    First,
-    /// The file behind it.
-    Second,
-}
-
-/// Why there is no text to write.
+/// Why a command wrote no text, or not all of it. A file is told by its place among the names.
 #[derive(Debug, Drop)]
 pub enum Stop {
     /// A file fails a check.
-    Refused(Reading, Refusal),
+    Refused(usize, Refusal),
     /// A file could not be read.
-    FileFault(Reading),
+    FileFault(usize),
+    /// The output did not take the text.
+    SinkFault,
     /// Memory ran out.
     NoMemory,
 }
 
-impl From<NoMemory> for Stop {
-    ghost use Rattle.std.specs.Prelude.{◌≡◌};
-    ghost use Rattle.taps_app.specs.declared.stop.Stop.TheVariants as stops;
-
-    ghost from_gives = { λ _ stop. stop ≡ stops.NoMemory };
-
-    fn from(_: NoMemory) -> Stop {
-        Stop::NoMemory
-    }
-}
-
-/// Why bytes give nothing to go on with.
+/// Why the bytes of a file give no value.
 #[derive(Debug, Drop)]
 pub enum Unready {
-    /// This check fails.
+    /// They fail this check.
     Refused(Refusal),
     /// Memory ran out.
     NoMemory,

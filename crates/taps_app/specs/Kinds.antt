@@ -1,0 +1,29 @@
+-- The table of commands (local).
+use Rattle.std.specs.Prelude.{ℕ, List, Option, Some, None, codes, bytes_eq, if◌then◌else◌}
+use Rattle.taps_framer.specs.Layers.{Layer}
+use Rattle.taps_app.specs.Meanings.{Meaning}
+use Rattle.taps_app.specs.Plan.{plan}
+use Rattle.taps_app.specs.Sim.{sim}
+use Rattle.taps_app.specs.Run.{run}
+use Rattle.taps_app.specs.Frame.{frame}
+use Rattle.taps_app.specs.Unframe.{unframe}
+use Rattle.taps_app.specs.declared.kind.Kind.{Kind}
+use Rattle.taps_app.specs.declared.kind.Kind.TheVariants.{Plan, Sim, Run, Frame, Unframe}
+
+-- what each command means, with the framers of this shelf
+abbrev pub meaning_of : List Layer → Kind → Meaning
+meaning_of shelf Plan = plan shelf
+meaning_of shelf Sim = sim shelf
+meaning_of shelf Run = run shelf
+meaning_of shelf Frame = frame shelf
+meaning_of shelf Unframe = unframe shelf
+
+-- the command of a word
+abbrev pub kind_of : List ℕ → Option Kind
+kind_of word =
+    if bytes_eq word (codes "plan") then Some Plan
+    else if bytes_eq word (codes "sim") then Some Sim
+    else if bytes_eq word (codes "run") then Some Run
+    else if bytes_eq word (codes "frame") then Some Frame
+    else if bytes_eq word (codes "unframe") then Some Unframe
+    else None

@@ -1,0 +1,7 @@
+//! The commands, one module each.
+
+pub mod frame;
+pub mod plan;
+pub mod run;
+pub mod sim;
+pub mod unframe;

@@ -1,0 +1,12 @@
+//! Bodies through a chain of framers as text, both ways: their frames, and the messages of bytes.
+#![tactic(auto)]
+
+mod frame;
+#[cfg(test)]
+mod tests;
+mod text;
+mod unframe;
+
+pub use frame::frame_text;
+pub use text::FrameText;
+pub use unframe::unframe_text;

@@ -1,6 +1,0 @@
-/// A text, and whether all of it went well.
-#[derive(Debug, Drop)]
-pub struct Framed {
-    pub text: Vec<u8>,
-    pub whole: bool,
-}
