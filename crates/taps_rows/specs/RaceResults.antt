@@ -1,17 +1,11 @@
 -- What a caller learns of a race over sockets of which it knows the trait alone.
-use Rattle.std.specs.Prelude.{◌≡◌, ℕ, true, false, List, ◌++◌, Ok, Some, slice_get}
+use Rattle.std.specs.Prelude.{◌≡◌, ℕ, true, false, List, ◌++◌, Some, slice_get}
 use Rattle.taps_stack.specs.declared.target.Target.{Target}
 use Rattle.taps_socket.specs.declared.item.Item.{Item}
-use Rattle.taps_socket.specs.declared.race_answer.RaceAnswer.{RaceAnswer}
-use Rattle.taps_socket.specs.declared.line.Line.{Line}
 use Rattle.taps_socket.specs.RaceTrace.{tries}
 use Rattle.taps_socket.specs.RaceSockets.{has, started, completed}
 use Rattle.taps_socket.specs.LiveSockets.{live_sockets}
-use Rattle.taps_socket.specs.Rules.{Rules}
-use Rattle.taps_socket.specs.LawfulRace.{IsLawfulRace}
 use Rattle.taps_socket.specs.Net.{Net}
-use Rattle.taps_socket.specs.Scripts.{script_of}
-use Rattle.taps_socket.specs.ScriptAnswers.{FollowsScript}
 
 -- in the race between the two a target of the list won, on the socket of its own attempt, which is live and completed
 pub record HasWon (targets : List Target) (before after : Net) (target : Target) (socket : ℕ) : Type 0 where
@@ -27,10 +21,3 @@ pub record HasWon (targets : List Target) (before after : Net) (target : Target)
 pub record LeavesNone (before after : Net) (items : List Item) : Type 0 where
   pub trace : after.trace ≡ items ++ before.trace
   pub closed : (s : ℕ) → has (started items) s ≡ true → has (live_sockets after.trace) s ≡ false
-
--- a lawful race in which each item is what the script answers to it, by the items before it
-pub record IsScriptedRace (script : List ℕ) (rules : Rules) (targets : List Target) (answer : RaceAnswer) (items : List Item) : Type 0 where
-  pub lines : List Line
-  pub meaning : script_of script ≡ Ok lines
-  pub lawful : IsLawfulRace rules 0 targets items answer
-  pub follows : FollowsScript lines items

@@ -2,12 +2,11 @@
 ghost use Rattle.std.specs.Prelude.{◌≡◌, ◌<◌, ◌^◌, [], List, length, Ok, None, IfOk, IfSome};
 ghost use Rattle.taps_socket.specs.declared.item.Item.{Item};
 ghost use Rattle.taps_socket.specs.RaceSockets.{pending_sockets};
-ghost use Rattle.taps_rows.specs.RaceResults.{HasWon, LeavesNone, IsScriptedRace};
+ghost use Rattle.taps_rows.specs.RaceResults.{HasWon, LeavesNone};
 
-use std::alloc::Global;
 use taps_base::NoMemory;
 use taps_racer::{RaceAnswer, Racer, Unstarted, establish};
-use taps_socket::{ScriptError, ScriptSockets, Sockets, Target};
+use taps_socket::{Sockets, Target};
 
 /// The target that won the race and its socket, if one did.
 pub fn winner_of<N: Sockets>(
@@ -28,23 +27,5 @@ pub fn winner_of<N: Sockets>(
     match ended.answer() {
         RaceAnswer::Ready { leaf, socket, .. } => Ok(Some((targets[leaf as usize], socket))),
         _ => Ok(None),
-    }
-}
-
-/// The answer of a race over the sockets of a script.
-pub fn scripted_answer(
-    alloc: Global,
-    script: &[u8],
-    racer: Racer<Unstarted>,
-    targets: &[Target],
-) -> Result<RaceAnswer, ScriptError>
-    requires leaves { length racer.rules.gaps ≡ length targets.now }
-    requires numbers { length targets.now < 2 ^ 32 }
-    ensures { IfOk result (λ answer. (items : List Item) × IsScriptedRace script.now racer.rules targets.now answer items) }
-{
-    let mut net = ScriptSockets::read(alloc, script)?;
-    match establish(racer, 0, targets, &mut net) {
-        Ok(ended) => Ok(ended.answer()),
-        Err(_) => Err(ScriptError::NoMemory),
     }
 }

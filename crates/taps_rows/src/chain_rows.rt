@@ -31,10 +31,10 @@ fn messages_are_wrapped(rt: HostRuntime) -> Result<(), Fail> {
     shelf.push(Box::new(alloc, Netstring)?)?;
     assert_eq!(rt; shelf.len(), 2);
     let chain = Chain::new(alloc, &shelf, &[0, 1])?;
-    let bytes = chain.wrap(alloc, 0, b"hi")?;
+    let bytes = chain.wrap(0, b"hi")?;
     assert_eq!(rt; bytes.as_slice(), b"\x00\x052:hi,".as_slice());
     assert!(rt;
-        matches!(chain.whole(alloc, 0, &bytes), WholeAnswer::Message(body) if body.bytes() == b"hi".as_slice())
+        matches!(chain.whole(0, &bytes), WholeAnswer::Message(body) if body.bytes() == b"hi".as_slice())
     );
     Ok(())
 }
@@ -47,10 +47,10 @@ fn the_longest_body_fits(rt: HostRuntime) -> Result<(), Fail> {
     assert_eq!(rt; shelf.len(), 1);
     let chain = Chain::new(alloc, &shelf, &[0])?;
     let longest = vec![in alloc; b'x'; 65_535]?;
-    assert_eq!(rt; chain.wrap(alloc, 0, &longest)?.len(), 65_537);
+    assert_eq!(rt; chain.wrap(0, &longest)?.len(), 65_537);
     let longer = vec![in alloc; b'x'; 65_536]?;
     assert_eq!(rt;
-        chain.wrap(alloc, 0, &longer).err(),
+        chain.wrap(0, &longer).err(),
         Some(WrapError::NotSpeakable(0))
     );
     Ok(())
@@ -66,7 +66,7 @@ fn a_frame_of_a_frame_must_fit(rt: HostRuntime) -> Result<(), Fail> {
     let chain = Chain::new(alloc, &shelf, &[0, 1])?;
     let body = vec![in alloc; b'x'; 65_530]?;
     assert_eq!(rt;
-        chain.wrap(alloc, 0, &body).err(),
+        chain.wrap(0, &body).err(),
         Some(WrapError::NotSpeakable(0))
     );
     Ok(())
@@ -82,7 +82,7 @@ fn single_bytes_are_heard(rt: HostRuntime) -> Result<(), Fail> {
     let chain = Chain::new(alloc, &shelf, &[0, 1])?;
     let pieces = single_bytes(alloc, b"\x00\x052:hi,\x00\x052:")?;
     let mut sink = List::new(alloc);
-    let hearing = hear_pieces(alloc, chain, &pieces, &mut sink);
+    let hearing = hear_pieces(chain, &pieces, &mut sink);
     assert!(rt; matches!(hearing.end, Heard::Need));
     assert_eq!(rt; hearing.rest, 4);
     assert_eq!(rt; sink.len(), 1);

@@ -21,7 +21,7 @@ pub const UNFRAME: Row<'static> = Row {
 };
 
 // The number of bytes of each piece.
-const PIECES: [u32; 3] = [1, 7, 65_536];
+const PIECES: [u32; 4] = [1, 7, 4_096, 65_536];
 
 /// The framers of a file, bytes, and what is heard in them.
 #[derive(Clone, Copy)]

@@ -10,8 +10,6 @@ mod file_rows;
 #[cfg(test)]
 mod frame_rows;
 #[cfg(test)]
-mod pair;
-#[cfg(test)]
 mod pair_rows;
 #[cfg(test)]
 mod plain_race;
@@ -32,4 +30,4 @@ mod there_and_back;
 #[cfg(test)]
 mod want_of_memory;
 
-pub use any_sockets::{scripted_answer, winner_of};
+pub use any_sockets::winner_of;

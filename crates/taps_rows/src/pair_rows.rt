@@ -1,14 +1,15 @@
 // Rows of a shelf with one framer more than the program has.
 use crate::frame_rows::{file_with, frame_row, unframe_row};
-use crate::pair::Pair;
 use crate::row::{holds_on, nine};
 use std::test::Fail;
+use taps_frame_rows::Pair;
 
 const FRAMERS: &str = "\"len16\", \"pair\"";
 
-const EXCHANGES: [&str; 3] = [
+const EXCHANGES: [&str; 4] = [
     "[exchange]\npiece = 1\n",
     "[exchange]\npiece = 7\n",
+    "[exchange]\npiece = 4096\n",
     "[exchange]\npiece = 65536\n",
 ];
 

@@ -1,13 +1,14 @@
 ghost use Rattle.std.specs.Prelude.{◌≡◌, ◌<◌, length};
 
-use crate::{scripted_answer, winner_of};
+use crate::winner_of;
 use std::alloc::Global;
 use std::process::Abort;
 use std::test::Fail;
 use taps_base::Gap;
 use taps_endpoint::Address;
 use taps_racer::{RaceAnswer, Racer, Unstarted, establish};
-use taps_socket::{Cause, How, Item, ScriptSockets, Target};
+use taps_script::ScriptSockets;
+use taps_socket::{Cause, How, Item, Target};
 use taps_stack::Stack;
 
 const A: Target = Target {
@@ -303,8 +304,5 @@ fn any_sockets_give_a_winner(rt: HostRuntime) -> Result<(), Fail> {
     let mut net = ScriptSockets::read(alloc, b"leaf 1 completes 60\n")?;
     let racer = Racer::new(alloc, &[Gap::After(0), Gap::After(250)], 30000, None)?;
     assert_eq!(rt; winner_of(racer, &[A, B], &mut net)?, Some((B, 1)));
-    let racer = Racer::new(alloc, &[Gap::After(0)], 30000, None)?;
-    let answer = scripted_answer(alloc, b"leaf 0 refuses reset\n", racer, &[A])?;
-    assert_eq!(rt; answer, RaceAnswer::AllFailed);
     Ok(())
 }

@@ -7,7 +7,8 @@ use taps_app::run;
 use taps_base::{MemoryFiles, MemorySink};
 use taps_framer::Framer;
 use taps_frames::{Counted, Len16, Len32, Line, Netstring, Seq, Stuffed, Tag, Varint};
-use taps_socket::{Item, ScriptSockets};
+use taps_script::ScriptSockets;
+use taps_socket::Item;
 
 /// What a row changes of the plain call of `plan a.toml`, and what it is to give.
 #[derive(Clone, Copy)]
@@ -61,8 +62,8 @@ pub fn holds_on<R: Abort>(
 {
     let words = owned(alloc, row.words)?;
     let mut files = MemoryFiles::new(alloc, row.faults)?;
-    files.add(alloc, row.held, row.bytes)?;
-    files.add(alloc, row.script_held, row.script)?;
+    files.add(row.held, row.bytes)?;
+    files.add(row.script_held, row.script)?;
     let mut out = MemorySink::new(alloc, row.capacity, None)?;
     let mut err = MemorySink::new(alloc, 200, row.err_fails)?;
     let mut net = ScriptSockets::read(alloc, row.net)?;

@@ -201,8 +201,11 @@ const BAD: [(&[u8], &str); 44] = [
         b"leaf 0 refuses refused\nleaf 1 refuses unreachable\nleaf 1 silent\n",
         "taps: refused s.txt: script line 3\n",
     ),
-    (b"peer echo\n", "taps: refused s.txt: script line 1\n"),
-    (b"take 1\n", "taps: refused s.txt: script line 1\n"),
+    (
+        b"peer echo\npeer echo\n",
+        "taps: refused s.txt: script line 2\n",
+    ),
+    (b"take 1\ntake 1\n", "taps: refused s.txt: script line 2\n"),
     (b"begin\n", "taps: refused s.txt: script line 1\n"),
     (b"begin 1 2\n", "taps: refused s.txt: script line 1\n"),
     (b"begin -1\n", "taps: refused s.txt: script line 1\n"),
@@ -297,8 +300,8 @@ const BAD: [(&[u8], &str); 44] = [
     (b"late 1\nlate 2", "taps: refused s.txt: script line 2\n"),
 ];
 
-// Scripts that say nothing.
-const EMPTY: [&[u8]; 3] = [b"", b"\n", b"#"];
+// Scripts by which nothing answers.
+const EMPTY: [&[u8]; 5] = [b"", b"\n", b"#", b"peer echo\n", b"take 1\n"];
 
 #[test]
 fn files_are_refused_for_now(rt: HostRuntime) -> Result<(), Fail> {

@@ -6,7 +6,7 @@ use std::process::Abort;
 use std::test::Fail;
 use taps_app::run;
 use taps_base::{MemoryFiles, MemorySink};
-use taps_socket::ScriptSockets;
+use taps_script::ScriptSockets;
 
 const SHORT: &[usize] = &[0, 1, 255, 256];
 
@@ -98,7 +98,7 @@ fn heard(alloc: Global, lengths: &[usize]) -> Result<String, AllocError> {
 fn framed<R: Abort>(rt: &R, alloc: Global, file: &str) -> Result<Vec<u8>, Fail> {
     let words = owned(alloc, FRAME.words)?;
     let mut files = MemoryFiles::new(alloc, &[])?;
-    files.add(alloc, FRAME.held, file.as_bytes())?;
+    files.add(FRAME.held, file.as_bytes())?;
     let mut out = MemorySink::new(alloc, 1_000_000, None)?;
     let mut err = MemorySink::new(alloc, 200, None)?;
     let mut net = ScriptSockets::read(alloc, b"")?;

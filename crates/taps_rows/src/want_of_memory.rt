@@ -7,7 +7,7 @@ use std::process::Abort;
 use std::test::Fail;
 use taps_app::{Status, run};
 use taps_base::{MemoryFiles, MemorySink, NoMemory};
-use taps_socket::{ScriptError, ScriptSockets};
+use taps_script::{ScriptError, ScriptSockets};
 
 // What one run came to.
 #[derive(Clone, Copy)]
@@ -21,7 +21,7 @@ enum Seen {
 fn race_once<R: Abort>(rt: &R, alloc: Global) -> Result<Seen, NoMemory> {
     let words = owned(alloc, &["run", "a.toml"])?;
     let mut files = MemoryFiles::new(alloc, &[])?;
-    files.add(alloc, "a.toml", TWO)?;
+    files.add("a.toml", TWO)?;
     let mut out = MemorySink::new(alloc, 2000, None)?;
     let mut err = MemorySink::new(alloc, 200, None)?;
     let mut net = sockets(rt, alloc)?;
@@ -46,7 +46,7 @@ fn race_once<R: Abort>(rt: &R, alloc: Global) -> Result<Seen, NoMemory> {
 }
 
 fn sockets<R: Abort>(rt: &R, alloc: Global) -> Result<ScriptSockets, NoMemory>
-    ensures { IfOk result (λ net. net.net.trace ≡ []) }
+    ensures { IfOk result (λ net. net.trace ≡ []) }
 {
     match ScriptSockets::read(alloc, b"leaf 1 completes 60\n") {
         Ok(net) => Ok(net),

@@ -1,6 +1,6 @@
 use Rattle.std.proofs.Common.{arith, refl}
-use Rattle.taps_chain.proofs.ShortPairs.{pair_short, pair_holds, pair_bad}
-use Rattle.taps_rows.proofs.pair.PairFramer.read.Goals as goal
+use Rattle.taps_frame_rows.proofs.ShortPairs.{pair_short, pair_holds, pair_bad}
+use Rattle.taps_frame_rows.proofs.pair.PairFramer.read.Goals as goal
 
 pub returns-then-buffer-lt2 : goal.returns-then-buffer-lt2
 returns-then-buffer-lt2 c = pair_short _ _ (omega arith)

@@ -1,7 +1,7 @@
-ghost use Rattle.taps_chain.specs.TestFramers.{pair};
+ghost use Rattle.taps_frame_rows.specs.TestFramers.{pair, pair_scans};
 
 use taps_base::NoMemory;
-use taps_framer::{Framer, Sight};
+use taps_framer::{Framer, Scan, Seen, Sight};
 
 /// One byte, and what it lacks of 255.
 #[derive(Drop)]
@@ -9,6 +9,8 @@ pub struct Pair;
 
 impl Framer for Pair {
     ghost layer = { λ _. pair };
+
+    ghost scans = { λ _. pair_scans };
 
     fn name(&self) -> &str {
         "pair"
@@ -39,6 +41,29 @@ impl Framer for Pair {
         Ok(())
     }
 
-    #[tactic(auto, using(taps_chain::proofs::ShortPairs::pair_is_framer))]
+    fn start(&self, _: u64) -> Scan {
+        Scan {
+            phase: 0,
+            length: 0,
+            rest: 0,
+        }
+    }
+
+    fn step(&self, _: u64, scan: Scan, byte: u8) -> Seen {
+        if scan.phase == 0 {
+            return Seen::More(Scan {
+                phase: 1,
+                length: byte as u64,
+                rest: 0,
+            });
+        }
+        if byte as u64 == 255u64.saturating_sub(scan.length) {
+            Seen::Whole
+        } else {
+            Seen::Bad
+        }
+    }
+
+    #[tactic(auto, using(crate::proofs::ShortPairs::pair_is_framer))]
     fn vouch(&self, _: u64) {}
 }

@@ -1,0 +1,94 @@
+use std::alloc::Global;
+use std::process::Abort;
+use std::test::Fail;
+use taps_endpoint::Address;
+use taps_socket::{How, Item, RaceAnswer, Target};
+use taps_stack::Stack;
+use taps_text::{Outcome, put_log};
+
+const TARGET: Target = Target {
+    stack: Stack::Tcp,
+    address: Address::V4 {
+        octets: [127, 0, 0, 1],
+        port: 9000,
+    },
+};
+
+// The race of two leaves of which the second is faster.
+const RACE: [Item; 6] = [
+    Item::Began { at: 0 },
+    Item::Started {
+        leaf: 0,
+        target: TARGET,
+        socket: 0,
+        at: 0,
+    },
+    Item::Waited {
+        until: 250,
+        at: 250,
+        how: How::Reached,
+    },
+    Item::Started {
+        leaf: 1,
+        target: TARGET,
+        socket: 1,
+        at: 250,
+    },
+    Item::Waited {
+        until: 30_000,
+        at: 310,
+        how: How::Completed(1),
+    },
+    Item::Closed { socket: 0 },
+];
+
+const READY: RaceAnswer = RaceAnswer::Ready {
+    leaf: 1,
+    socket: 1,
+    at: 310,
+};
+
+const READY_LOG: &str =
+    "begin 0\nstart 0 socket 0 at 0\nwait 250 reached 250\nstart 1 socket 1 at 250\nwait 30000 completed 1 at 310\nclose 0\nready 1\nclose 1\nsent 0 0\ndone\n";
+
+// The log of a session that ended so is this text.
+fn ends<R: Abort>(
+    rt: &R,
+    alloc: Global,
+    race: &[Item],
+    answer: RaceAnswer,
+    outcome: Outcome,
+    wanted: &str,
+) -> Result<(), Fail> {
+    let after = [Item::Closed { socket: 1 }];
+    let mut text = Vec::new(alloc);
+    put_log(&mut text, race, answer, &after, outcome).map_err(|_| "memory")?;
+    assert_eq!(rt; text.as_slice(), wanted.as_bytes());
+    Ok(())
+}
+
+#[test]
+fn a_ready_log_ends_with_its_outcome(rt: HostRuntime) -> Result<(), Fail> {
+    let race = RACE;
+    ends(&rt, rt.alloc(), &race, READY, Outcome::Done, READY_LOG)
+}
+
+#[test]
+fn a_log_of_no_items(rt: HostRuntime) -> Result<(), Fail> {
+    let wanted = "ready 1\nclose 1\nsent 0 0\ntimed\n";
+    ends(&rt, rt.alloc(), &[], READY, Outcome::Timed, wanted)
+}
+
+#[test]
+fn any_other_log_ends_with_its_answer(rt: HostRuntime) -> Result<(), Fail> {
+    let race = [Item::Began { at: 0 }];
+    let closed = RaceAnswer::Closed;
+    ends(
+        &rt,
+        rt.alloc(),
+        &race,
+        closed,
+        Outcome::Done,
+        "begin 0\nclosed\n",
+    )
+}

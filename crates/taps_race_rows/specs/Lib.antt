@@ -1,0 +1,2 @@
+pub mod WorkedScripts
+pub mod Exchanges
