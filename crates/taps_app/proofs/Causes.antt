@@ -1,5 +1,5 @@
 -- From how a command ends to what the top call keeps of it.
-use Rattle.std.proofs.Common.{◌≡◌, ◌==◌, ◌≤◌, ◌<◌, ◌≢◌, ◌↔◌, ℕ, zero, suc, true, false, List, [], ◌∷◌, Option, Some, None, Result, Ok, Err, refl, ◌∙◌, ap, length, map, slice_get, arith, rules, String, Global, string_bytes}
+use Rattle.std.proofs.Common.{◌≡◌, ◌==◌, ◌≤◌, ◌<◌, ◌≢◌, ◌↔◌, ℕ, zero, suc, true, false, List, [], ◌∷◌, Some, None, Result, Ok, Err, refl, ◌∙◌, ap, length, slice_get, arith, rules, String, Global, string_bytes}
 use Rattle.taps_base.specs.Sinks.{SinkState}
 use Rattle.taps_framer.specs.Layers.{Layer}
 use Rattle.taps_text.specs.ErrorLines.{usage_line}

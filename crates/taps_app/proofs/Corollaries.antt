@@ -1,13 +1,12 @@
 -- What single commands write, by the bytes of their files.
-use Rattle.std.proofs.Common.{◌≡◌, ◌≤◌, ◌++◌, ℕ, zero, suc, List, [], ◌∷◌, Option, Some, None, Result, Ok, Err, refl, sym, ◌∙◌, ap, subst, inl, inr, length, leb, reverse, slice_get, codes, append-nil, String, Global, arith}
+use Rattle.std.proofs.Common.{◌≡◌, ◌≤◌, ◌++◌, ℕ, List, [], ◌∷◌, Option, Some, None, Result, Ok, Err, refl, sym, ◌∙◌, ap, subst, inl, inr, length, leb, reverse, slice_get, codes, append-nil, String, Global}
 use Rattle.std.proofs.lemmas.Bool.{cases_Bool, leb-true}
 use Rattle.taps_base.specs.Files.{Contents, IsContent}
-use Rattle.taps_base.specs.Results.{◌>>=◌}
 use Rattle.taps_base.specs.Sinks.{SinkState}
 use Rattle.taps_base.specs.declared.sink.SinkAnswer.TheVariants as answers
 use Rattle.taps_base.proofs.Results.{both_ok, ok_same}
 use Rattle.taps_framer.specs.Layers.{Layer}
-use Rattle.taps_session.specs.Sessions.{closes_of}
+use Rattle.taps_app.specs.Session.{closes_of}
 use Rattle.taps_socket.specs.Net.{Net}
 use Rattle.taps_script.specs.ScriptNet.{Scripted, at_first}
 use Rattle.taps_script.specs.Scripts.{script_of}
@@ -19,16 +18,17 @@ use Rattle.taps_text.specs.Log.{log_of}
 use Rattle.taps_text.specs.declared.outcome.Outcome.TheVariants as outcomes
 use Rattle.taps_text.specs.declared.refusal.Refusal.{Refusal}
 use Rattle.taps_app.specs.Asked.{Asks, asked_in, asked_of, IsRun}
-use Rattle.taps_app.specs.Checks.{FileRules, most_bytes, most_framed, addresses_for, checked, only_value, only_file, first_value, first_file, second_file, beside}
+use Rattle.taps_app.specs.Checks.{FileRules, most_bytes, most_framed, addresses_for, checked, only_file, first_file, second_file, beside}
 use Rattle.taps_app.specs.FilePlans.{IsPlanned, IsPlanOfFile}
-use Rattle.taps_app.specs.Frame.{frame, frame_rules, IsFramed, PrintsFrames}
+use Rattle.taps_app.specs.Frame.{frame, frame_rules, IsFramed}
 use Rattle.taps_app.specs.Framings.{FramesFile, UnframesFile, IsFramingOf}
 use Rattle.taps_app.specs.Meanings.{Meaning, Reading, judge, HasText}
 use Rattle.taps_app.specs.Plan.{plan, plan_rules, PrintsPlan}
 use Rattle.taps_app.specs.Ready.{Ready}
-use Rattle.taps_app.specs.Run.{run, run_rules, PrintsSession}
-use Rattle.taps_app.specs.Runs.{World, Ends, Delivers, Judged, Comes, Passes, Takes, names_of, status_of}
-use Rattle.taps_app.specs.Sessions.{text_of, log_text}
+use Rattle.taps_app.specs.OneFile.{HasRead}
+use Rattle.taps_app.specs.Run.{run, run_rules}
+use Rattle.taps_app.specs.Runs.{World, Ends, Delivers, Judged, Passes, Takes, names_of, status_of}
+use Rattle.taps_app.specs.FileSessions.{text_of, log_text, IsLoggedOn}
 use Rattle.taps_app.specs.Sim.{sim, sim_rules, scripted, or_bad_line, PrintsSimulation}
 use Rattle.taps_app.specs.Simulations.{IsSimulation, IsSimulationOf}
 use Rattle.taps_app.specs.Unframe.{unframe, any_bytes, PrintsMessages}
@@ -165,13 +165,13 @@ planned rules shelf contents file bytes ready text rest out out' derives content
 plan_planned : (shelf : List Layer) (file : List ℕ) (old new : World) (s : Status) → Delivers (plan shelf) (file ∷ []) answers.Taken old new s → IsPlanned old.files.contents file old.out new.out
 plan_planned shelf file old new s h =
     let f = only_there plan_rules shelf (plan shelf).Prints (plan shelf).MayLeave old.files.contents file h.value h.comes in
-    let prints : PrintsPlan (Some f.ready) h.text s = subst (λ (v : Option Ready). PrintsPlan v h.text s) f.there h.prints in
+    let prints : PrintsPlan f.ready h.text s = subst (HasRead (λ ready. PrintsPlan ready h.text s)) f.there h.prints in
     planned plan_rules shelf old.files.contents file f.bytes f.ready h.text [] old.out new.out (λ pre. refl) f.content f.passes (prints.0 ∙ sym (append-nil (text_of f.ready))) h.takes
 
 run_planned : (shelf : List Layer) (file : List ℕ) (old new : World) (s : Status) → Delivers (run shelf) (file ∷ []) answers.Taken old new s → IsPlanned old.files.contents file old.out new.out
 run_planned shelf file old new s h =
     let f = only_there run_rules shelf (run shelf).Prints (run shelf).MayLeave old.files.contents file h.value h.comes in
-    let prints : PrintsSession (Some f.ready) old.net new.net h.text s = subst (λ (v : Option Ready). PrintsSession v old.net new.net h.text s) f.there h.prints in
+    let prints : IsLoggedOn f.ready old.net new.net h.text s = subst (HasRead (λ ready. IsLoggedOn ready old.net new.net h.text s)) f.there h.prints in
     let logged = prints.logged in
     let (rest, begins) = log_begins f.ready logged.race logged.answer h.text logged.log in
     planned run_rules shelf old.files.contents file f.bytes f.ready h.text rest old.out new.out (λ pre. refl) f.content f.passes begins h.takes
@@ -212,7 +212,7 @@ sim_planned shelf file script old new s h =
 frames : (shelf : List Layer) (file : List ℕ) (old new : World) (s : Status) → Delivers (frame shelf) (file ∷ []) answers.Taken old new s → FramesFile shelf old.files.contents file old.out new.out s
 frames shelf file old new s h =
     let f = only_there frame_rules shelf (frame shelf).Prints (frame shelf).MayLeave old.files.contents file h.value h.comes in
-    let prints : PrintsFrames shelf (Some f.ready) h.text s = subst (λ (v : Option Ready). PrintsFrames shelf v h.text s) f.there h.prints in
+    let prints : IsFramed shelf f.ready h.text s = subst (HasRead (λ ready. IsFramed shelf ready h.text s)) f.there h.prints in
     record { bytes = f.bytes; content = f.content; fits = f.fits; ready = f.ready; passes = f.passes; text = h.text; framed = prints; takes = h.takes }
 
 unframes : (shelf : List Layer) (file name : List ℕ) (old new : World) (s : Status) → Delivers (unframe shelf) (file ∷ name ∷ []) answers.Taken old new s

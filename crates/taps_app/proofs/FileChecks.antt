@@ -1,7 +1,6 @@
 -- From the checks of FILE to what its bytes give.
-use Rattle.std.proofs.Common.{◌≡◌, ℕ, List, Result, Ok, Err, refl, sym, ap, ◌∙◌, subst, inl, inr, length, leb}
+use Rattle.std.proofs.Common.{◌≡◌, ℕ, List, Result, Ok, Err, refl, sym, ◌∙◌, subst, inl, inr, length, leb}
 use Rattle.std.proofs.lemmas.Bool.{cases_Bool}
-use Rattle.taps_base.specs.Results.{◌>>=◌}
 use Rattle.taps_base.proofs.Results.{both_ok, ok_same}
 use Rattle.taps_endpoint.specs.declared.address.Address.{Address}
 use Rattle.taps_endpoint.specs.DerivedAddresses.{derived_addresses}

@@ -3,6 +3,9 @@ pub mod Gathering
 pub mod FileChecks
 pub mod Places
 pub mod Plans
+pub mod Parts
+pub mod Closes
+pub mod Raced
 pub mod Logs
 pub mod Saying
 pub mod Causes

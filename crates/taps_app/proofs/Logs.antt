@@ -1,6 +1,6 @@
 -- From a session that ran to its log.
-use Rattle.std.proofs.Common.{map, append-nil, ◌∷◌, ◌≡◌, ◌⊎◌, ◌++◌, ℕ, List, [], refl, sym, ◌∙◌, ap, subst, inl, inr}
-use Rattle.taps_session.specs.Sessions.{Held, IsSession, closes_of}
+use Rattle.std.proofs.Common.{map, append-nil, ◌∷◌, ◌≡◌, ◌++◌, ℕ, List, [], refl, sym, ◌∙◌, ap, subst, inl, inr}
+use Rattle.taps_app.specs.Session.{Held, IsSession, closes_of}
 use Rattle.taps_socket.specs.declared.item.Item.{Item}
 use Rattle.taps_script.specs.declared.line.Line.{Line}
 use Rattle.taps_socket.specs.declared.race_answer.RaceAnswer.{RaceAnswer}
@@ -14,7 +14,7 @@ use Rattle.taps_socket.specs.declared.item.Item.TheVariants as item
 use Rattle.taps_app.specs.Nets.{HandsOn}
 use Rattle.taps_app.specs.Meanings.{HasText}
 use Rattle.taps_app.specs.Ready.{Ready}
-use Rattle.taps_app.specs.Sessions.{rules_of, targets_of, IsSessionOf, status_by, log_text, IsLogged, IsLoggedOn, LeavesSession, IsScriptedRaceOf, IsSimulated}
+use Rattle.taps_app.specs.FileSessions.{rules_of, targets_of, IsSessionOf, status_by, log_text, IsLogged, IsLoggedOn, LeavesSession, IsScriptedRaceOf, IsSimulated}
 use Rattle.taps_app.specs.declared.status.Status.{Status}
 use Rattle.taps_app.specs.declared.status.Status.TheVariants as status
 

@@ -1,12 +1,10 @@
 -- Where a file's framers stand on the shelf.
-use Rattle.std.proofs.Common.{◌≡◌, ◌<◌, ◌≤◌, ◌+◌, ◌++◌, ℕ, Bool, true, false, List, [], ◌∷◌, Option, Some, None, Result, Ok, Err, refl, ap, sym, ◌∙◌, subst, inl, inr, length, map, slice_get, bytes_eq, length-append, arith}
-use Rattle.std.specs.List.{All, filter_map}
+use Rattle.std.proofs.Common.{◌≡◌, ◌<◌, ◌≤◌, ◌+◌, ◌++◌, ℕ, Bool, true, false, List, [], ◌∷◌, Option, Some, None, Ok, refl, ap, inl, inr, length, map, slice_get, bytes_eq, length-append, arith}
+use Rattle.std.specs.List.{All}
 use Rattle.std.proofs.lemmas.Bool.{cases_Bool}
 use Rattle.std.proofs.lemmas.List.Elements.{All-nil, All-cons, All-append}
-use Rattle.taps_base.specs.Results.{◌>>=◌}
 use Rattle.taps_base.proofs.Results.{both_ok, ok_same}
 use Rattle.taps_framer.specs.Layers.{Layer}
-use Rattle.taps_text.specs.declared.refusal.Refusal.{Refusal}
 use Rattle.taps_app.specs.Frame.{status_if}
 use Rattle.taps_app.specs.Meanings.{HasText}
 use Rattle.taps_app.specs.Places.{place_from, or_unknown, places_after, places_on, chain_of}

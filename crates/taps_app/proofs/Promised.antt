@@ -2,7 +2,7 @@
 use Rattle.std.proofs.Common.{List, String, Global}
 use Rattle.taps_base.specs.Sinks.{SinkState}
 use Rattle.taps_framer.specs.Layers.{Layer}
-use Rattle.taps_session.specs.Sessions.{IsClosedOnce}
+use Rattle.taps_app.specs.Session.{IsClosedOnce}
 use Rattle.taps_app.specs.Asked.{asked_of, IsRun}
 use Rattle.taps_app.specs.Promises.{Promises}
 use Rattle.taps_app.specs.Runs.{World}

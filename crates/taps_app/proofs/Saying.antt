@@ -1,5 +1,5 @@
 -- Under which name a line is told.
-use Rattle.std.proofs.Common.{◌≡◌, ℕ, List, [], ◌∷◌, Option, Some, None, zero, suc, slice_get, map, String, Global, string_bytes, inl, refl}
+use Rattle.std.proofs.Common.{◌≡◌, ℕ, List, [], ◌∷◌, Some, None, zero, suc, slice_get, String, Global, string_bytes}
 use Rattle.taps_base.specs.Sinks.{SinkState}
 use Rattle.taps_text.specs.ErrorLines.{refused_line, fault_line}
 use Rattle.taps_text.specs.declared.refusal.Refusal.{Refusal}

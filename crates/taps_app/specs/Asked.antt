@@ -23,6 +23,7 @@ pub data Asked : Type 1 where
   NoCommand : Asked
   Asks : Meaning → List (List ℕ) → Asked
 
+-- the command with these names of files, if it is one
 abbrev pub asked_if : Bool → Meaning → List (List ℕ) → Asked
 asked_if true m names = Asks m names
 asked_if false m names = NoCommand
@@ -31,6 +32,7 @@ asked_if false m names = NoCommand
 abbrev pub asked : Meaning → List (List ℕ) → Asked
 asked m names = asked_if (length names == length m.readings) m names
 
+-- what is asked for under a kind, if there is one
 abbrev pub asked_by : List Layer → Option Kind → List (List ℕ) → Asked
 asked_by shelf None names = NoCommand
 asked_by shelf (Some kind) names = asked (meaning_of shelf kind) names
@@ -44,12 +46,14 @@ asked_in shelf (word ∷ names) = asked_by shelf (kind_of word) names
 abbrev pub asked_of : List Layer → List (String Global) → Asked
 asked_of shelf words = asked_in shelf (names_of words)
 
+-- nothing is asked for
 abbrev pub IsNoCommand : Asked → Type 0
 IsNoCommand NoCommand = ⊤
 IsNoCommand (Asks m names) = ⊥
 
 -- how a command ended, the cause of that with what `out` received, what `err` received, and the status
-pub record HasCause (m : Meaning) (names : List (List ℕ)) (old new : World) (err err' : SinkState) (s : Status) : Type 0 where
+pub record HasCause (m : Meaning) (names : List (List ℕ))
+    (old new : World) (err err' : SinkState) (s : Status) : Type 0 where
   pub fits : length names ≡ length m.readings
   pub ended : Result Status Stop
   pub cause : Ends m names old new ended
@@ -77,16 +81,23 @@ abbrev pub LeavesLawful : Asked → Contents → Net → Net → Type 0
 LeavesLawful NoCommand contents old new = new ≡ old
 LeavesLawful (Asks m names) contents old new = IsLawful m names contents old new
 
--- where the contents are observable and no count of faults rose, they decide the status and the output, but for out of memory
-pub record IsDecided (m : Meaning) (names : List (List ℕ)) (held : List ℕ → Option (List ℕ)) (old new : World) (s : Status) : Type 0 where
-  pub refused : (place : ℕ) (why : Refusal) → IsRefused m (Some held) names place why → ¬ Rose old.files.faults new.files.faults
+-- where the contents are observable and no count of faults rose, they decide the status and the output, but for out of
+-- memory
+pub record IsDecided (m : Meaning) (names : List (List ℕ))
+    (held : List ℕ → Option (List ℕ)) (old new : World) (s : Status) : Type 0 where
+  pub refused : (place : ℕ) (why : Refusal) → IsRefused m (Some held) names place why
+      → ¬ Rose old.files.faults new.files.faults
       → (s ≡ status.Refused) ⊎ (s ≡ status.NoMemory)
-  pub passed : (value : m.Value) → Passes m (Some held) names value → ¬ Rose old.files.faults new.files.faults → ¬ Rose old.out.faults new.out.faults
-      → ((text : List ℕ) × m.Prints value old.net new.net text s × Takes answers.Taken old.out new.out text) ⊎ (s ≡ status.NoMemory)
+  pub passed : (value : m.Value) → Passes m (Some held) names value
+      → ¬ Rose old.files.faults new.files.faults → ¬ Rose old.out.faults new.out.faults
+      → ((text : List ℕ) × m.Prints value old.net new.net text s × Takes answers.Taken old.out new.out text)
+      ⊎ (s ≡ status.NoMemory)
 
+-- where the contents are observable, they decide how the command ended
 abbrev pub IsComplete : Asked → World → World → Status → Type 0
 IsComplete NoCommand old new s = ⊤
-IsComplete (Asks m names) old new s = (held : List ℕ → Option (List ℕ)) → old.files.contents ≡ Some held → IsDecided m names held old new s
+IsComplete (Asks m names) old new s =
+    (held : List ℕ → Option (List ℕ)) → old.files.contents ≡ Some held → IsDecided m names held old new s
 
 -- what is kept of the command that was called
 pub record IsRun (asks : Asked) (old new : World) (err err' : SinkState) (s : Status) : Type 0 where
@@ -94,5 +105,6 @@ pub record IsRun (asks : Asked) (old new : World) (err err' : SinkState) (s : St
   pub lawful : LeavesLawful asks old.files.contents old.net new.net
 
 -- the same of the command of a kind
-pub record IsRunOf (shelf : List Layer) (kind : Kind) (names : List (List ℕ)) (old new : World) (err err' : SinkState) (s : Status) : Type 0 where
+pub record IsRunOf (shelf : List Layer) (kind : Kind) (names : List (List ℕ))
+    (old new : World) (err err' : SinkState) (s : Status) : Type 0 where
   pub run : IsRun (asked (meaning_of shelf kind) names) old new err err' s

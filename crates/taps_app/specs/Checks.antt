@@ -1,5 +1,5 @@
 -- The checks of the files in their order: what they give, or the first check that fails (local).
-use Rattle.std.specs.Prelude.{◌≡◌, ◌≤◌, ℕ, zero, suc, ⊤, Bool, true, false, ◌&&◌, ◌==◌, List, [], Option, Some, None, Result, Ok, Err, length, nat_le, if◌then◌else◌}
+use Rattle.std.specs.Prelude.{ℕ, zero, suc, ⊤, Bool, true, false, ◌&&◌, ◌==◌, List, [], Option, Some, None, Result, Ok, Err, length, nat_le, if◌then◌else◌}
 use Rattle.taps_base.specs.Results.{◌>>=◌}
 use Rattle.taps_endpoint.specs.declared.address.Address.{Address}
 use Rattle.taps_endpoint.specs.DerivedAddresses.{derived_addresses}
@@ -17,10 +17,11 @@ use Rattle.taps_app.specs.Ready.{Ready}
 use Rattle.taps_app.specs.declared.two_files.TwoFiles.{TwoFiles}
 use Rattle.taps_app.specs.declared.two_files.TwoFiles.TheVariants.{Nothing, File, Both}
 
--- the longest FILE and SCRIPT that are read, and the longest BYTES, in bytes
+-- the longest FILE and SCRIPT that are read, in bytes
 abbrev pub most_bytes : ℕ
 most_bytes = 1048576
 
+-- the longest BYTES that are read, in bytes
 abbrev pub most_framed : ℕ
 most_framed = 4194304
 
@@ -35,7 +36,8 @@ any_file pre = true
 
 -- nothing is sent or heard, and there is one member
 abbrev pub is_quiet : Preconnection → Bool
-is_quiet pre = (length pre.messages.items == 0) && (pre.exchange.expect == 0) && (pre.exchange.clones == 0) && (length pre.exchange.priorities.items == 0)
+is_quiet pre = (length pre.messages.items == 0) && (pre.exchange.expect == 0)
+    && (pre.exchange.clones == 0) && (length pre.exchange.priorities.items == 0)
 
 -- the role is that of Initiate
 abbrev pub is_initiate : RunRole → Bool
@@ -45,7 +47,8 @@ is_initiate role.Loop = false
 
 -- there are no more than 32 addresses
 abbrev pub at_most_32 : List Address → Result (List Address) Refusal
-at_most_32 addresses = if nat_le (length addresses) 32 then Ok addresses else Err (refusal.TooManyRemotes (length addresses))
+at_most_32 addresses =
+    if nat_le (length addresses) 32 then Ok addresses else Err (refusal.TooManyRemotes (length addresses))
 
 -- the addresses of the remotes, each once, of which there may be 32
 unfoldable pub addresses_for : Preconnection → Result (List Address) Refusal
@@ -71,7 +74,8 @@ or_not_yet false = Err refusal.NotYet
 
 -- the addresses, where the framers stand at these places
 unfoldable pub addressed : FileRules → Preconnection → List ℕ → Result Ready Refusal
-addressed rules pre places = rules.addresses pre >>= λ addresses. Ok (record { pre = pre; places = places; addresses = addresses })
+addressed rules pre places =
+    rules.addresses pre >>= λ addresses. Ok (record { pre = pre; places = places; addresses = addresses })
 
 -- the framers, and then the addresses
 unfoldable pub shelved : FileRules → List Layer → Preconnection → Result Ready Refusal
@@ -89,6 +93,7 @@ checked rules shelf bytes = valued bytes >>= λ pre. readied rules shelf pre
 abbrev pub only_value : FileRules → List Layer → List ℕ → Result (Option Ready) Refusal
 only_value rules shelf bytes = checked rules shelf bytes >>= λ ready. Ok (Some ready)
 
+-- FILE as the only file, with its limit and its check
 abbrev pub only_file : FileRules → List Layer → Reading (Option Ready)
 only_file rules shelf = record { limit = most_bytes; check = λ _ bytes. only_value rules shelf bytes }
 
@@ -106,6 +111,7 @@ HasOnly shelf (suc place) value = HasFramers shelf value
 abbrev pub first_value : {B : Type 0} → FileRules → List Layer → List ℕ → Result (TwoFiles B) Refusal
 first_value rules shelf bytes = checked rules shelf bytes >>= λ ready. Ok (File ready)
 
+-- FILE as the first of two files, with its limit and its check
 abbrev pub first_file : {B : Type 0} → FileRules → List Layer → Reading (TwoFiles B)
 first_file rules shelf = record { limit = most_bytes; check = λ _ bytes. first_value rules shelf bytes }
 

@@ -3,6 +3,7 @@ use Rattle.std.specs.Prelude.{ℕ}
 use Rattle.taps_app.specs.declared.status.Status.{Status}
 use Rattle.taps_app.specs.declared.status.Status.TheVariants.{Done, Usage, Refused, Establishment, Exchange, FileFault, SinkFault, SocketFault, NoMemory, Closed}
 
+-- the exit code of a status
 abbrev pub code_of : Status → ℕ
 code_of Done = 0
 code_of Usage = 2

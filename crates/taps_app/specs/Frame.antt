@@ -1,10 +1,11 @@
 -- `frame FILE` (local).
-use Rattle.std.specs.Prelude.{◌≡◌, ℕ, Bool, true, false, List, [], ◌∷◌, map, Option, Some, None}
+use Rattle.std.specs.Prelude.{◌≡◌, ℕ, Bool, true, false, List, map}
 use Rattle.taps_frame_text.specs.FrameLines.{frame_lines, are_all_spoken}
 use Rattle.taps_framer.specs.Layers.{Layer}
 use Rattle.taps_preconnection.specs.declared.message.MessageSpec.{MessageSpec}
-use Rattle.taps_app.specs.Checks.{FileRules, any_file, no_addresses, only_file}
+use Rattle.taps_app.specs.Checks.{FileRules, any_file, no_addresses}
 use Rattle.taps_app.specs.Meanings.{Meaning}
+use Rattle.taps_app.specs.OneFile.{one_file, LeavesAlone}
 use Rattle.taps_app.specs.Ready.{Ready}
 use Rattle.taps_app.specs.Places.{chain_of}
 use Rattle.taps_app.specs.declared.status.Status.{Status}
@@ -28,17 +29,6 @@ pub record IsFramed (shelf : List Layer) (ready : Ready) (text : List ℕ) (s : 
   pub lines : text ≡ frame_lines (chain_of shelf ready.places) 0 (bodies_of ready.pre.messages.items)
   pub status : s ≡ status_if (are_all_spoken (chain_of shelf ready.places) 0 (bodies_of ready.pre.messages.items))
 
--- the frames of the file's messages
-abbrev pub PrintsFrames : List Layer → Option Ready → List ℕ → Status → Type 0
-PrintsFrames shelf None text s = ⊥
-PrintsFrames shelf (Some ready) text s = IsFramed shelf ready text s
-
--- one file, of which the messages are framed; the sockets are not used
+-- one file, of which the messages are framed
 abbrev pub frame : List Layer → Meaning
-frame shelf = record {
-  Value = Option Ready;
-  start = None;
-  readings = only_file frame_rules shelf ∷ [];
-  Prints = λ value old new text s. PrintsFrames shelf value text s;
-  MayLeave = λ value old new. new ≡ old;
-}
+frame shelf = one_file frame_rules (λ ready old new text s. IsFramed shelf ready text s) LeavesAlone shelf

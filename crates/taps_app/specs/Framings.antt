@@ -12,9 +12,10 @@ use Rattle.taps_app.specs.Runs.{Takes}
 use Rattle.taps_app.specs.Unframe.{IsDecoded}
 use Rattle.taps_app.specs.declared.status.Status.{Status}
 
--- FILE's bytes, where observable, pass their checks, and where the sink's bytes are observable too, what it took are the frames of the
--- file's messages
-pub record FramesFile (shelf : List Layer) (contents : Contents) (file : List ℕ) (out out' : SinkState) (s : Status) : Type 0 where
+-- FILE's bytes, where observable, pass their checks, and where the sink's bytes are observable too, what it took are
+-- the frames of the file's messages
+pub record FramesFile (shelf : List Layer) (contents : Contents)
+    (file : List ℕ) (out out' : SinkState) (s : Status) : Type 0 where
   pub bytes : List ℕ
   pub content : IsContent contents file bytes
   pub fits : length bytes ≤ most_bytes
@@ -25,7 +26,8 @@ pub record FramesFile (shelf : List Layer) (contents : Contents) (file : List �
   pub takes : Takes answers.Taken out out' text
 
 -- so do FILE's bytes and BYTES, and what the sink took are the messages of BYTES, and how they end
-pub record UnframesFile (shelf : List Layer) (contents : Contents) (file name : List ℕ) (out out' : SinkState) (s : Status) : Type 0 where
+pub record UnframesFile (shelf : List Layer) (contents : Contents)
+    (file name : List ℕ) (out out' : SinkState) (s : Status) : Type 0 where
   pub bytes : List ℕ
   pub content : IsContent contents file bytes
   pub fits : length bytes ≤ most_bytes
@@ -39,6 +41,9 @@ pub record UnframesFile (shelf : List Layer) (contents : Contents) (file name : 
   pub takes : Takes answers.Taken out out' text
 
 -- so it is for each status of the two commands that has a text
-pub record IsFramingOf (shelf : List Layer) (words : List (List ℕ)) (contents : Contents) (out out' : SinkState) (s : Status) : Type 0 where
-  pub frame : (file : List ℕ) → words ≡ codes "frame" ∷ file ∷ [] → HasText s → FramesFile shelf contents file out out' s
-  pub unframe : (file bytes : List ℕ) → words ≡ codes "unframe" ∷ file ∷ bytes ∷ [] → HasText s → UnframesFile shelf contents file bytes out out' s
+pub record IsFramingOf (shelf : List Layer) (words : List (List ℕ))
+    (contents : Contents) (out out' : SinkState) (s : Status) : Type 0 where
+  pub frame : (file : List ℕ) → words ≡ codes "frame" ∷ file ∷ []
+      → HasText s → FramesFile shelf contents file out out' s
+  pub unframe : (file bytes : List ℕ) → words ≡ codes "unframe" ∷ file ∷ bytes ∷ []
+      → HasText s → UnframesFile shelf contents file bytes out out' s

@@ -4,8 +4,11 @@ pub mod Shelves
 pub mod Places
 pub mod Ready
 pub mod Nets
+pub mod Session
+pub mod Raced
 pub mod Checks
-pub mod Sessions
+pub mod FileSessions
+pub mod OneFile
 pub mod Plan
 pub mod Sim
 pub mod Run

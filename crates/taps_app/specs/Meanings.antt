@@ -8,13 +8,14 @@ use Rattle.taps_app.specs.declared.status.Status.TheVariants as status
 use Rattle.taps_app.specs.declared.stop.Unready.{Unready}
 use Rattle.taps_app.specs.declared.stop.Unready.TheVariants as unready
 
--- a file that a command reads: how many bytes it may have, and what its bytes make of the value that the files before it gave
+-- a file that a command reads: how many bytes it may have, and what its bytes make of the value that the files before
+-- it gave
 pub record Reading (V : Type 0) : Type 0 where
   pub limit : ℕ
   pub check : V → List ℕ → Result V Refusal
 
--- The files in their order, and the value before the first of them. Where they all pass their checks and give a value: which text
--- and status there are, with the sockets before and after, and what the sockets may be after.
+-- The files in their order, and the value before the first of them. Where they all pass their checks and give a value:
+-- which text and status there are, with the sockets before and after, and what the sockets may be after.
 pub record Meaning : Type 1 where
   pub Value : Type 0
   pub start : Value
@@ -24,7 +25,8 @@ pub record Meaning : Type 1 where
 
 -- what bytes give, of which there may be too many
 unfoldable pub judge : {V : Type 0} → Reading V → V → List ℕ → Result V Refusal
-judge reading value bytes = if nat_le (length bytes) reading.limit then reading.check value bytes else Err refusal.TooLong
+judge reading value bytes =
+    if nat_le (length bytes) reading.limit then reading.check value bytes else Err refusal.TooLong
 
 -- a value, seen by a view, or a refusal is what the definition says; out of memory is free
 abbrev pub Returns : {A B : Type 0} → (A → B) → Result B Refusal → Result A Unready → Type 0

@@ -1,5 +1,5 @@
 -- The places of a file's framers on the shelf, which are found by their names (local).
-use Rattle.std.specs.Prelude.{ℕ, ◌+◌, ◌<◌, ◌≤◌, List, [], ◌∷◌, ◌++◌, Option, Some, None, Result, Ok, Err, length, map, slice_get, bytes_eq, if◌then◌else◌}
+use Rattle.std.specs.Prelude.{ℕ, ◌+◌, ◌<◌, ◌≤◌, List, [], ◌∷◌, ◌++◌, Option, Some, None, Result, Ok, Err, length, slice_get, bytes_eq, if◌then◌else◌}
 use Rattle.std.specs.List.{All, filter_map}
 use Rattle.taps_base.specs.Results.{◌>>=◌}
 use Rattle.taps_framer.specs.Layers.{Layer}
@@ -19,7 +19,8 @@ or_unknown number (Some place) = Ok place
 -- the places of a file's framers, after those that were found before
 abbrev pub places_after : List Layer → List ℕ → List (List ℕ) → Result (List ℕ) Refusal
 places_after shelf found [] = Ok found
-places_after shelf found (name ∷ names) = or_unknown (length found) (place_from 0 name shelf) >>= λ place. places_after shelf (found ++ place ∷ []) names
+places_after shelf found (name ∷ names) =
+    or_unknown (length found) (place_from 0 name shelf) >>= λ place. places_after shelf (found ++ place ∷ []) names
 
 -- the places of a file's framers, or the first of them that is not there
 unfoldable pub places_on : List Layer → List (List ℕ) → Result (List ℕ) Refusal

@@ -1,5 +1,5 @@
 -- What a command does, and why, stated once for every meaning.
-use Rattle.std.specs.Prelude.{◌≡◌, ◌≤◌, ◌+◌, ◌-◌, ◌^◌, ◌⊎◌, min, max, ℕ, zero, suc, List, [], ◌∷◌, Some, slice_get, length, map, string_bytes, Result, Ok, Err, ⊤}
+use Rattle.std.specs.Prelude.{◌≡◌, ◌≤◌, ◌+◌, ◌-◌, ◌^◌, ◌⊎◌, min, max, ℕ, zero, suc, List, [], ◌∷◌, Some, slice_get, length, map, string_bytes, Result, Ok, Err}
 use Rattle.std.proofs.Common.{String, Global}
 use Rattle.taps_base.specs.Counts.{Rose}
 use Rattle.taps_base.specs.Files.{Contents, FilesState, IsContent}
@@ -22,6 +22,7 @@ pub record World : Type 0 where
   pub out : SinkState
   pub net : Net
 
+-- files, output and sockets as one value
 abbrev pub world : FilesState → SinkState → Net → World
 world files out net = record { files = files; out = out; net = net }
 
@@ -34,7 +35,8 @@ abbrev pub more : ℕ → ℕ → ℕ
 more k reads = max reads (min (reads + k) (2 ^ 64 - 1))
 
 -- the bytes of this name, where observable, give this after a value, as those of the file at this place
-pub record Judged (m : Meaning) (contents : Contents) (name : List ℕ) (place : ℕ) (value : m.Value) (outcome : Result m.Value Refusal) : Type 0 where
+pub record Judged (m : Meaning) (contents : Contents) (name : List ℕ) (place : ℕ)
+    (value : m.Value) (outcome : Result m.Value Refusal) : Type 0 where
   pub reading : Reading m.Value
   pub read : slice_get m.readings place ≡ Some reading
   pub bytes : List ℕ
@@ -53,7 +55,8 @@ abbrev pub Passes : (m : Meaning) → Contents → List (List ℕ) → m.Value �
 Passes m contents names value = Comes m contents names (length m.readings) value
 
 -- the files before this place pass, and then the file there is refused
-pub record IsRefused (m : Meaning) (contents : Contents) (names : List (List ℕ)) (place : ℕ) (why : Refusal) : Type 0 where
+pub record IsRefused (m : Meaning) (contents : Contents)
+    (names : List (List ℕ)) (place : ℕ) (why : Refusal) : Type 0 where
   pub value : m.Value
   pub comes : Comes m contents names place value
   pub name : List ℕ
@@ -77,7 +80,8 @@ pub record ReadsWell (k : ℕ) (old new : FilesState) : Type 0 where
   pub contents : new.contents ≡ old.contents
 
 -- the first so many files were read and pass
-pub record HaveCome (m : Meaning) (names : List (List ℕ)) (k : ℕ) (value : m.Value) (old new : FilesState) : Type 0 where
+pub record HaveCome (m : Meaning) (names : List (List ℕ)) (k : ℕ)
+    (value : m.Value) (old new : FilesState) : Type 0 where
   pub comes : Comes m old.contents names k value
   pub reads : ReadsWell k old new
 
@@ -87,17 +91,22 @@ pub record ReadsFew (m : Meaning) (old new : FilesState) : Type 0 where
   pub faults : new.faults ≡ old.faults
 
 -- what reading all files gave, seen by a view
-abbrev pub Gathers : {A : Type 0} (m : Meaning) → (A → m.Value) → List (List ℕ) → FilesState → FilesState → Result A Stop → Type 0
+abbrev pub Gathers : {A : Type 0} (m : Meaning) → (A → m.Value)
+    → List (List ℕ) → FilesState → FilesState → Result A Stop → Type 0
 Gathers m view names old new (Ok value) = HaveCome m names (length m.readings) (view value) old new
-Gathers m view names old new (Err (Refused place why)) = IsRefused m old.contents names place why × ReadsWell (suc place) old new
+Gathers m view names old new (Err (Refused place why)) =
+    IsRefused m old.contents names place why × ReadsWell (suc place) old new
 Gathers m view names old new (Err (FileFault place)) = Fails m names place old new
 Gathers m view names old new (Err SinkFault) = ⊥
 Gathers m view names old new (Err NoMemory) = ReadsFew m old new
 
 -- what reading one file gave, seen by a view
-abbrev pub Steps : {A : Type 0} (m : Meaning) → (A → m.Value) → List ℕ → ℕ → m.Value → FilesState → FilesState → Result A Stop → Type 0
-Steps m view name place before old new (Ok value) = Judged m old.contents name place before (Ok (view value)) × ReadsWell 1 old new
-Steps m view name place before old new (Err (Refused at why)) = (at ≡ place) × Judged m old.contents name place before (Err why) × ReadsWell 1 old new
+abbrev pub Steps : {A : Type 0} (m : Meaning) → (A → m.Value) → List ℕ
+    → ℕ → m.Value → FilesState → FilesState → Result A Stop → Type 0
+Steps m view name place before old new (Ok value) =
+    Judged m old.contents name place before (Ok (view value)) × ReadsWell 1 old new
+Steps m view name place before old new (Err (Refused at why)) =
+    (at ≡ place) × Judged m old.contents name place before (Err why) × ReadsWell 1 old new
 Steps m view name place before old new (Err (FileFault at)) =
     (at ≡ place) × Rose old.faults new.faults × (new.last_failed ≡ Some name) × (new.reads ≡ more 1 old.reads)
 Steps m view name place before old new (Err SinkFault) = ⊥
@@ -109,7 +118,8 @@ Takes answer old new [] = (new ≡ old) × (answer ≡ answers.Taken)
 Takes answer old new (byte ∷ text) = Receives answer old new (byte ∷ text)
 
 -- all files pass, and the text that they give was written, with this answer
-pub record Delivers (m : Meaning) (names : List (List ℕ)) (answer : SinkAnswer) (old new : World) (s : Status) : Type 0 where
+pub record Delivers (m : Meaning) (names : List (List ℕ))
+    (answer : SinkAnswer) (old new : World) (s : Status) : Type 0 where
   pub value : m.Value
   pub comes : Passes m old.files.contents names value
   pub text : List ℕ
@@ -134,8 +144,10 @@ Ends m names old new (Err NoMemory) = ReadsFew m old.files new.files × (new.out
 -- what `err` receives, under the name of the file at the place
 abbrev pub Says : List (List ℕ) → SinkState → SinkState → Result Status Stop → Type 0
 Says names old new (Ok s) = new ≡ old
-Says names old new (Err (Refused place why)) = (name : List ℕ) → slice_get names place ≡ Some name → MayTell old new (refused_line name why)
-Says names old new (Err (FileFault place)) = (name : List ℕ) → slice_get names place ≡ Some name → MayTell old new (fault_line name)
+Says names old new (Err (Refused place why)) =
+    (name : List ℕ) → slice_get names place ≡ Some name → MayTell old new (refused_line name why)
+Says names old new (Err (FileFault place)) =
+    (name : List ℕ) → slice_get names place ≡ Some name → MayTell old new (fault_line name)
 Says names old new (Err SinkFault) = Tells old new output_fault_line
 Says names old new (Err NoMemory) = Tells old new no_memory_line
 
@@ -149,4 +161,5 @@ status_of (Err NoMemory) = status.NoMemory
 
 -- the sockets were not touched, or all files passed and the sockets are what they may be then
 abbrev pub IsLawful : (m : Meaning) → List (List ℕ) → Contents → Net → Net → Type 0
-IsLawful m names contents old new = (new ≡ old) ⊎ ((value : m.Value) × Passes m contents names value × m.MayLeave value old new)
+IsLawful m names contents old new =
+    (new ≡ old) ⊎ ((value : m.Value) × Passes m contents names value × m.MayLeave value old new)

@@ -8,7 +8,7 @@ use Rattle.taps_text.specs.declared.refusal.Refusal.{Refusal}
 use Rattle.taps_text.specs.declared.refusal.Refusal.TheVariants as refusal
 use Rattle.taps_app.specs.Checks.{FileRules, is_quiet, addresses_for, first_file, second_file, most_bytes}
 use Rattle.taps_app.specs.Meanings.{Meaning}
-use Rattle.taps_app.specs.Sessions.{IsSimulated}
+use Rattle.taps_app.specs.FileSessions.{IsSimulated}
 use Rattle.taps_app.specs.declared.status.Status.{Status}
 use Rattle.taps_app.specs.declared.two_files.TwoFiles.{TwoFiles}
 use Rattle.taps_app.specs.declared.two_files.TwoFiles.TheVariants.{Nothing, File, Both}

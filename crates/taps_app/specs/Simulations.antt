@@ -10,13 +10,14 @@ use Rattle.taps_app.specs.Checks.{checked, most_bytes}
 use Rattle.taps_app.specs.Meanings.{HasText}
 use Rattle.taps_app.specs.Ready.{Ready}
 use Rattle.taps_app.specs.Runs.{Takes}
-use Rattle.taps_app.specs.Sessions.{IsSimulated}
+use Rattle.taps_app.specs.FileSessions.{IsSimulated}
 use Rattle.taps_app.specs.Sim.{sim_rules}
 use Rattle.taps_app.specs.declared.status.Status.{Status}
 
--- FILE's and SCRIPT's bytes, where observable, pass their checks, and where the sink's bytes are observable too, what it took is the
--- log of the one lawful race over the plan in which each item is what the script answers to it
-pub record IsSimulation (shelf : List Layer) (contents : Contents) (file script : List ℕ) (out out' : SinkState) (s : Status) : Type 0 where
+-- FILE's and SCRIPT's bytes, where observable, pass their checks, and where the sink's bytes are observable too, what
+-- it took is the log of the one lawful race over the plan in which each item is what the script answers to it
+pub record IsSimulation (shelf : List Layer) (contents : Contents)
+    (file script : List ℕ) (out out' : SinkState) (s : Status) : Type 0 where
   pub bytes : List ℕ
   pub content : IsContent contents file bytes
   pub fits : length bytes ≤ most_bytes
@@ -34,4 +35,5 @@ pub record IsSimulation (shelf : List Layer) (contents : Contents) (file script 
 -- so it is for each status that has a text
 abbrev pub IsSimulationOf : List Layer → List (List ℕ) → Contents → SinkState → SinkState → Status → Type 0
 IsSimulationOf shelf words contents out out' s =
-    (file script : List ℕ) → words ≡ codes "sim" ∷ file ∷ script ∷ [] → HasText s → IsSimulation shelf contents file script out out' s
+    (file script : List ℕ) → words ≡ codes "sim" ∷ file ∷ script ∷ []
+    → HasText s → IsSimulation shelf contents file script out out' s

@@ -1,5 +1,5 @@
 ghost use Rattle.std.specs.Prelude.{◌≡◌, [], length};
-ghost use Rattle.taps_session.specs.Sessions.{IsClosedOnce};
+ghost use Rattle.taps_app.specs.Session.{IsClosedOnce};
 ghost use Rattle.taps_app.specs.Nets.{HandsOn};
 ghost use Rattle.taps_app.specs.Runs.{Ends, IsLawful, Takes, names_of, world};
 ghost use Rattle.taps_app.specs.Shelves.{layers_on};

@@ -1,5 +1,5 @@
 ghost use Rattle.std.specs.Prelude.{◌≡◌, ◌+◌, ◌<◌, ◌≤◌, [], ℕ, length, slice_get, option_map, Some, IfOk};
-ghost use Rattle.taps_session.specs.Sessions.{IsClosedOnce};
+ghost use Rattle.taps_app.specs.Session.{IsClosedOnce};
 ghost use Rattle.taps_app.specs.Nets.{HandsOn};
 ghost use Rattle.taps_app.specs.Meanings.{Meaning, Reading, Returns, HasText};
 ghost use Rattle.taps_app.specs.Shelves.{layers_on};

@@ -1,4 +1,4 @@
-ghost use Rattle.std.specs.Prelude.{◌≡◌, ◌<◌, length};
+ghost use Rattle.std.specs.Prelude.{◌<◌, length};
 ghost use Rattle.taps_text.specs.ErrorLines as lines;
 ghost use Rattle.taps_app.specs.Runs.{Says, names_of};
 ghost use Rattle.taps_app.specs.Telling.{Tells, MayTell};

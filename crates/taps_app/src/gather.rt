@@ -1,4 +1,4 @@
-ghost use Rattle.std.specs.Prelude.{◌≡◌, ◌+◌, ◌<◌, ◌≤◌, length, IfOk};
+ghost use Rattle.std.specs.Prelude.{◌≡◌, ◌+◌, ◌<◌, length, IfOk};
 ghost use Rattle.taps_app.specs.Runs.{Gathers, Steps, names_of};
 ghost use Rattle.taps_app.specs.Shelves.{layers_on};
 

@@ -15,17 +15,12 @@ pub enum Kind {
 pub fn kind_of(word: &str) -> Option<Kind>
     ensures { result ≡ kinds.kind_of word.now }
 {
-    if word == "plan" {
-        Some(Kind::Plan)
-    } else if word == "sim" {
-        Some(Kind::Sim)
-    } else if word == "run" {
-        Some(Kind::Run)
-    } else if word == "frame" {
-        Some(Kind::Frame)
-    } else if word == "unframe" {
-        Some(Kind::Unframe)
-    } else {
-        None
+    match word {
+        "plan" => Some(Kind::Plan),
+        "sim" => Some(Kind::Sim),
+        "run" => Some(Kind::Run),
+        "frame" => Some(Kind::Frame),
+        "unframe" => Some(Kind::Unframe),
+        _ => None,
     }
 }

@@ -1,7 +1,7 @@
-ghost use Rattle.std.specs.Prelude.{◌≡◌, ◌<◌, ◌≤◌, length, map, IfOk, Ok, All};
+ghost use Rattle.std.specs.Prelude.{◌≡◌, ◌<◌, map, IfOk, Ok};
 ghost use Rattle.taps_app.specs.Meanings.{HasText};
 ghost use Rattle.taps_app.specs.Plan.{PrintsPlan};
-ghost use Rattle.taps_app.specs.Sessions.{text_of, IsPlanFor};
+ghost use Rattle.taps_app.specs.FileSessions.{text_of, IsPlanFor};
 
 use crate::printed::Printed;
 use crate::ready::Ready;
@@ -21,7 +21,7 @@ pub fn initiate(alloc: Global, ready: &Ready) -> Result<Plan, NoMemory>
 }
 
 /// Its text.
-#[tactic(auto, unfolding(crate::specs::Sessions::text_of))]
+#[tactic(auto, unfolding(crate::specs::FileSessions::text_of))]
 pub fn text(alloc: Global, ready: &Ready, plan: &Plan) -> Result<Vec<u8>, NoMemory>
     requires plan { IsPlanFor ready.now plan.now }
     ensures { IfOk result (λ text. text.items ≡ text_of ready.now) }
@@ -32,7 +32,7 @@ pub fn text(alloc: Global, ready: &Ready, plan: &Plan) -> Result<Vec<u8>, NoMemo
 
 /// The text of the plan of Initiate, with its status.
 pub fn print_plan(alloc: Global, ready: &Ready) -> Result<Printed, NoMemory>
-    ensures prints { IfOk result (λ printed. PrintsPlan (Some ready.now) printed.text.items printed.status) }
+    ensures prints { IfOk result (λ printed. PrintsPlan ready.now printed.text.items printed.status) }
     ensures has_text { IfOk result (λ printed. HasText printed.status) }
 {
     let plan = initiate(alloc, ready)?;

@@ -1,6 +1,6 @@
 ghost use Rattle.std.specs.Prelude.{◌≡◌};
 ghost use Rattle.taps_app.specs.Codes.{code_of};
-ghost use Rattle.taps_app.specs.Sessions.{status_by};
+ghost use Rattle.taps_app.specs.FileSessions.{status_by};
 ghost use Rattle.taps_app.specs.Frame as frame;
 
 use taps_socket::RaceAnswer;

@@ -1,5 +1,5 @@
 ghost use Rattle.std.specs.Prelude.{◌≡◌, ◌≤◌, [], length, map};
-ghost use Rattle.taps_session.specs.Sessions.{IsClosedOnce};
+ghost use Rattle.taps_app.specs.Session.{IsClosedOnce};
 ghost use Rattle.taps_app.specs.Nets.{HandsOn};
 ghost use Rattle.taps_app.specs.Asked.{asked, asked_of, IsRun, IsRunOf};
 ghost use Rattle.taps_app.specs.Promises.{Promises};
@@ -19,6 +19,7 @@ use crate::error_line::{say, tell_usage};
 use crate::kind::{Kind, kind_of};
 use crate::layers::Layers;
 use crate::nets::vouch_untouched;
+use crate::one_file::Only;
 use crate::shelf::Shelf;
 use crate::status::Status;
 use crate::stop::Stop;
@@ -128,10 +129,14 @@ fn run_kind<L: Layers, F: Files, O: Sink, E: Sink, N: Sockets>(
     ensures becomes { HandsOn N.Becomes net.old net.new (N.net net.old) (N.net net.new) }
 {
     match kind {
-        Kind::Plan => run_as::<Plan, L, F, O, E, N>(alloc, names, files, out, err, net, shelf),
+        Kind::Plan => run_as::<Only<Plan>, L, F, O, E, N>(
+            alloc, names, files, out, err, net, shelf,
+        ),
         Kind::Sim => run_as::<Sim, L, F, O, E, N>(alloc, names, files, out, err, net, shelf),
-        Kind::Run => run_as::<Run, L, F, O, E, N>(alloc, names, files, out, err, net, shelf),
-        Kind::Frame => run_as::<Frame, L, F, O, E, N>(alloc, names, files, out, err, net, shelf),
+        Kind::Run => run_as::<Only<Run>, L, F, O, E, N>(alloc, names, files, out, err, net, shelf),
+        Kind::Frame => run_as::<Only<Frame>, L, F, O, E, N>(
+            alloc, names, files, out, err, net, shelf,
+        ),
         Kind::Unframe => {
             run_as::<Unframe, L, F, O, E, N>(alloc, names, files, out, err, net, shelf)
         }

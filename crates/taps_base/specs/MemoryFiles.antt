@@ -21,11 +21,21 @@ pub record History : Type 0 where
 
 -- these files' numbers of failing reads, and what was read so far
 abbrev pub history : MemoryFiles → History
-history files = record { failing = files.failing.items; faults = files.faults; last_failed = option_map (λ name. string_bytes name) files.last_failed; reads = files.reads }
+history files = record {
+  failing = files.failing.items;
+  faults = files.faults;
+  last_failed = option_map (λ name. string_bytes name) files.last_failed;
+  reads = files.reads;
+}
 
 -- what contracts see of files in memory, whose contents are observable
 abbrev pub files_state : MemoryFiles → FilesState
-files_state files = record { contents = Some (λ name. held_at files name); faults = files.faults; last_failed = (history files).last_failed; reads = files.reads }
+files_state files = record {
+  contents = Some (λ name. held_at files name);
+  faults = files.faults;
+  last_failed = (history files).last_failed;
+  reads = files.reads;
+}
 
 -- the answer to a read of a name that holds these bytes, or none
 abbrev pub answer_to : Option (List ℕ) → ℕ → FileAnswer
@@ -34,7 +44,8 @@ answer_to (Some bytes) max = if nat_le (length bytes) max then Bytes bytes else 
 
 -- the answer to the next read, unless memory runs out
 unfoldable pub answer_of : MemoryFiles → List ℕ → ℕ → FileAnswer
-answer_of files name max = if list_any (λ k. k == files.reads) files.failing.items then Failed else answer_to (held_at files name) max
+answer_of files name max =
+    if list_any (λ k. k == files.reads) files.failing.items then Failed else answer_to (held_at files name) max
 
 -- the history after a read of this name that was answered so
 abbrev pub history_after : FileAnswer → List ℕ → History → History

@@ -58,7 +58,8 @@ impl<T> List<T> {
 
     /// Adds a value. Where memory runs out, it is handed back.
     pub fn push(&mut self, value: T) -> Result<(), (NoMemory, T)>
-        ensures ok { OnOk result (self.new ≡ record { items = self.old.items ++ value ∷ []; spare = self.old.spare - 1 }) }
+        ensures ok { OnOk result
+            (self.new ≡ record { items = self.old.items ++ value ∷ []; spare = self.old.spare - 1 }) }
         ensures err { OnErr result (self.new ≡ self.old) }
         ensures back { IfErr result (λ e. e.1 ≡ value) }
         ensures room { 0 < self.old.spare → IsOk result }

@@ -1,4 +1,4 @@
-ghost use Rattle.std.specs.Prelude.{◌≡◌, ◌≢◌, ◌==◌, List, ℕ, length, false, bytes_eq, Some, None, IfOk, OnOk, OnErr};
+ghost use Rattle.std.specs.Prelude.{◌≡◌, ◌≢◌, ◌==◌, List, ℕ, false, bytes_eq, Some, None, IfOk, OnOk, OnErr};
 ghost use Rattle.std.specs.List.{list_any};
 ghost use Rattle.taps_base.specs.Files.{Answers};
 ghost use Rattle.taps_base.specs.MemoryFiles.{answer_to};
@@ -24,7 +24,8 @@ impl MemoryFiles {
     /// No files. The reads of these numbers, counted from 0, fail.
     pub fn new(alloc: Global, faults: &[u64]) -> Result<MemoryFiles, NoMemory>
         ensures none { IfOk result (λ files. (name : List ℕ) → held_at files name ≡ None) }
-        ensures unread { IfOk result (λ files. history files ≡ record { failing = faults.now; faults = 0; last_failed = None; reads = 0 }) }
+        ensures unread { IfOk result (λ files.
+            history files ≡ record { failing = faults.now; faults = 0; last_failed = None; reads = 0 }) }
     {
         Ok(MemoryFiles {
             alloc,
@@ -40,7 +41,8 @@ impl MemoryFiles {
     #[tactic(auto, using(std::proofs::lemmas::Map::Text::text_keys))]
     pub fn add(&mut self, name: &str, bytes: &[u8]) -> Result<(), NoMemory>
         ensures added { OnOk result (held_at self.new name.now ≡ Some bytes.now) }
-        ensures others { OnOk result ((other : List ℕ) → bytes_eq other name.now ≡ false → held_at self.new other ≡ held_at self.old other) }
+        ensures others { OnOk result ((other : List ℕ) → bytes_eq other name.now ≡ false
+            → held_at self.new other ≡ held_at self.old other) }
         ensures unchanged { OnErr result ((other : List ℕ) → held_at self.new other ≡ held_at self.old other) }
         ensures unread { history self.new ≡ history self.old }
     {

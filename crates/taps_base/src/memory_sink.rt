@@ -22,7 +22,13 @@ impl Model for MemorySink {
 
     ghost Value = { MemorySinkState };
 
-    ghost view = { λ s. record { taken = s.taken.items; capacity = s.capacity; fail_at = s.fail_at; writes = s.writes; faults = s.faults } };
+    ghost view = { λ s. record {
+      taken = s.taken.items;
+      capacity = s.capacity;
+      fail_at = s.fail_at;
+      writes = s.writes;
+      faults = s.faults;
+    } };
 
     ghost invariant = { λ s. (vec_len s.taken ≤ s.capacity) × (s.capacity ≤ vec_capacity s.taken) };
 }
@@ -31,7 +37,8 @@ impl MemorySink {
     /// An empty sink of this capacity in bytes. All its memory is taken here. The write of number
     /// `fail_at`, counted from 0, takes nothing and fails.
     pub fn new(alloc: Global, capacity: u64, fail_at: Option<u64>) -> Result<MemorySink, NoMemory>
-        ensures { IfOk result (λ sink. sink ≡ record { taken = []; capacity = capacity; fail_at = fail_at; writes = 0; faults = 0 }) }
+        ensures { IfOk result (λ sink.
+            sink ≡ record { taken = []; capacity = capacity; fail_at = fail_at; writes = 0; faults = 0 }) }
     {
         let capacity = capacity as usize;
         Ok(MemorySink {

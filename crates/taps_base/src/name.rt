@@ -1,4 +1,4 @@
-ghost use Rattle.std.specs.Prelude.{◌≡◌, ◌↔◌, ℕ, List, true, false, IfOk, IsTrue, IsErrOf, string_bytes};
+ghost use Rattle.std.specs.Prelude.{◌≡◌, ◌↔◌, ℕ, List, false, IfOk, string_bytes};
 ghost use Rattle.std.specs.List.{list_all};
 ghost use Rattle.taps_base.specs.Names.{is_name_byte, is_name};
 

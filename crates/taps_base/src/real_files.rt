@@ -29,7 +29,8 @@ impl<R: rt::Files + Drop> RealFiles<R> {
 
     /// The files that this runtime reaches, of which none was read.
     pub fn new(alloc: Global, system: R) -> Result<RealFiles<R>, NoMemory>
-        ensures { IfOk result (λ files. real_files_state files ≡ record { contents = None; faults = 0; last_failed = None; reads = 0 }) }
+        ensures { IfOk result (λ files.
+            real_files_state files ≡ record { contents = None; faults = 0; last_failed = None; reads = 0 }) }
     {
         let buffer = vec![in alloc; 0; PIECE]?;
         Ok(RealFiles {
@@ -89,7 +90,8 @@ pub(crate) fn take_all<F: Read>(
 ) -> FileAnswer
     requires { 0 < length buffer.old }
     ensures short { (body : List ℕ) → result ≡ FileAnswer.Bytes body → length body ≤ max }
-    ensures whole { (body : List ℕ) → result ≡ FileAnswer.Bytes body → IfSome (F.remaining file.old) (λ all. body ≡ all) }
+    ensures whole { (body : List ℕ) → result ≡ FileAnswer.Bytes body
+        → IfSome (F.remaining file.old) (λ all. body ≡ all) }
     ensures long { result ≡ FileAnswer.TooLong → IfSome (F.remaining file.old) (λ all. max < length all) }
 {
     let mut bytes = Vec::new(alloc);
@@ -133,10 +135,13 @@ enum Piece {
 // Reads one piece and appends it to the bytes.
 fn take_piece<F: Read>(file: &mut F, piece: &mut [u8], bytes: &mut Vec<u8>) -> Piece
     requires { 0 < length piece.old }
-    ensures got { result ≡ Piece.Got → (vec_len bytes.old < vec_len bytes.new) × (vec_len bytes.new ≤ vec_len bytes.old + length piece.old) }
+    ensures got { result ≡ Piece.Got
+        → (vec_len bytes.old < vec_len bytes.new) × (vec_len bytes.new ≤ vec_len bytes.old + length piece.old) }
     ensures end { result ≡ Piece.End → (bytes.new.items ≡ bytes.old.items) × IsAtEnd (F.remaining file.new) }
-    ensures given { (all : Option (List ℕ)) → Consumes all (F.remaining file.old) bytes.old.items → result ≡ Piece.Got → Consumes all (F.remaining file.new) bytes.new.items }
-    ensures kept { (all : Option (List ℕ)) → Consumes all (F.remaining file.old) bytes.old.items → result ≡ Piece.End → Consumes all (F.remaining file.new) bytes.new.items }
+    ensures given { (all : Option (List ℕ)) → Consumes all (F.remaining file.old) bytes.old.items
+        → result ≡ Piece.Got → Consumes all (F.remaining file.new) bytes.new.items }
+    ensures kept { (all : Option (List ℕ)) → Consumes all (F.remaining file.old) bytes.old.items
+        → result ≡ Piece.End → Consumes all (F.remaining file.new) bytes.new.items }
 {
     match read_again(file, piece) {
         Some(0) => Piece::End,

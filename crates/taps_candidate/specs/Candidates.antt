@@ -33,7 +33,8 @@ keyed_by level turn (place, address) = record {
 -- that of an address, if it is reached, by what the turns before it left
 abbrev pub of_address : Level → Path → Turns → ℕ × Address → List code.Candidate
 of_address level path turns (place, address) =
-    if is_reachable path level.stack address then keyed_by level (turn_in turns (family_of address)) (place, address) ∷ [] else []
+    if is_reachable path level.stack address
+    then keyed_by level (turn_in turns (family_of address)) (place, address) ∷ [] else []
 
 -- the addresses that a path and a stack reach, with their places
 abbrev pub reached : Path → Stack → List Address → List (ℕ × Address)
@@ -42,7 +43,8 @@ reached path stack addresses = filter (λ (place, address). is_reachable path st
 -- one of a level, by its turn among the addresses that are reached
 abbrev pub keyed_among : Level → Path → List Address → ℕ × Address → code.Candidate
 keyed_among level path addresses (place, address) =
-    keyed_by level (turn_of (map placed_family (reached path level.stack addresses)) (place, family_of address)) (place, address)
+    keyed_by level (turn_of (map placed_family (reached path level.stack addresses)) (place, family_of address))
+    (place, address)
 
 -- those of a path and a stack
 abbrev pub of_level : Level → Path → List Address → List code.Candidate
@@ -51,11 +53,17 @@ of_level level path addresses = map (keyed_among level path addresses) (reached 
 -- what the candidates of this path and this stack have in common
 abbrev pub level_of : Gathering → ℕ × Path → Stack → Level
 level_of g (place, path) stack =
-    record { path_key = path_key g.selection path; path = place; stack_key = stack_key g.selection stack; stack = stack }
+    record {
+      path_key = path_key g.selection path;
+      path = place;
+      stack_key = stack_key g.selection stack;
+      stack = stack;
+    }
 
 -- those of a stack, if it survives
 abbrev pub of_stack : Gathering → ℕ × Path → Stack → List code.Candidate
-of_stack g path stack = if stack_survives g.selection g.role stack then of_level (level_of g path stack) path.1 g.addresses else []
+of_stack g path stack =
+    if stack_survives g.selection g.role stack then of_level (level_of g path stack) path.1 g.addresses else []
 
 -- those of a path, stack by stack
 abbrev pub of_stacks : Gathering → ℕ × Path → List code.Candidate

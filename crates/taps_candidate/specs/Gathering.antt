@@ -12,8 +12,8 @@ use Rattle.taps_prune.specs.Survival as survival
 use Rattle.taps_stack.specs.declared.stack.Stack.{Stack}
 use Rattle.taps_stack.specs.StackTable.{stacks}
 
--- what an application uses a Preconnection for and what it asks; the paths that there are, the locals, and the addresses,
--- each once
+-- what an application uses a Preconnection for and what it asks; the paths that there are, the locals, and the
+-- addresses, each once
 pub record Gathering : Type 0 where
   pub role : Role
   pub selection : Selection
@@ -24,7 +24,13 @@ pub record Gathering : Type 0 where
 -- what is gathered for a Preconnection in a role
 abbrev pub gathering_of : Preconnection → Role → List Address → Gathering
 gathering_of pre role addresses =
-    record { role = role; selection = selection_for pre role; paths = pre.paths.items; locals = pre.locals.items; addresses = addresses }
+    record {
+      role = role;
+      selection = selection_for pre role;
+      paths = pre.paths.items;
+      locals = pre.locals.items;
+      addresses = addresses;
+    }
 
 -- a path, a stack and an address, with the places of the path and of the address
 pub record Candidate : Type 0 where
@@ -36,11 +42,14 @@ pub record Candidate : Type 0 where
 
 -- the triple of these
 abbrev pub candidate_of : ℕ × Path → Stack → ℕ × Address → Candidate
-candidate_of (path_place, path) stack (place, address) = record { path_place = path_place; path = path; stack = stack; place = place; address = address }
+candidate_of (path_place, path) stack (place, address) =
+    record { path_place = path_place; path = path; stack = stack; place = place; address = address }
 
 -- all triples
 abbrev pub candidates : Gathering → List Candidate
-candidates g = flat_map (λ path. flat_map (λ stack. map (candidate_of path stack) (enumerate_from 0 g.addresses)) stacks) (enumerate_from 0 g.paths)
+candidates g = flat_map
+    (λ path. flat_map (λ stack. map (candidate_of path stack) (enumerate_from 0 g.addresses)) stacks)
+    (enumerate_from 0 g.paths)
 
 -- the triple may be tried
 abbrev pub survives : Gathering → Path → Stack → Address → Bool

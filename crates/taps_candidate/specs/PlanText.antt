@@ -28,14 +28,17 @@ gap_text Never = codes "none"
 -- the leaf's number, its path's interface, its stack, its address and its gap
 unfoldable pub leaf_line : (ℕ → List ℕ) → ℕ → Leaf → Gap → List ℕ
 leaf_line interface number leaf gap =
-    decimal number ++ (codes " " ++ (interface leaf.path ++ (codes " " ++ (stack_word leaf.target.stack ++ (codes " " ++ (canonical_text leaf.target.address ++ (codes " +" ++ (gap_text gap ++ codes "\n"))))))))
+    decimal number ++ (codes " " ++ (interface leaf.path ++ (codes " " ++ (stack_word leaf.target.stack
+    ++ (codes " " ++ (canonical_text leaf.target.address ++ (codes " +" ++ (gap_text gap ++ codes "\n"))))))))
 
 -- the lines of the leaves from a number on
 unfoldable pub leaf_lines : (ℕ → List ℕ) → ℕ → List Leaf → List Gap → List ℕ
 leaf_lines interface number [] gaps = []
 leaf_lines interface number (leaf ∷ leaves) [] = []
-leaf_lines interface number (leaf ∷ leaves) (gap ∷ gaps) = leaf_line interface number leaf gap ++ leaf_lines interface (number + 1) leaves gaps
+leaf_lines interface number (leaf ∷ leaves) (gap ∷ gaps) =
+    leaf_line interface number leaf gap ++ leaf_lines interface (number + 1) leaves gaps
 
 -- the number of leaves, and a line for each; each path is printed by its interface's name
 unfoldable pub plan_text : (ℕ → List ℕ) → List Leaf → List Gap → List ℕ
-plan_text interface leaves gaps = (codes "leaves " ++ (decimal (length leaves) ++ codes "\n")) ++ leaf_lines interface 0 leaves gaps
+plan_text interface leaves gaps =
+    (codes "leaves " ++ (decimal (length leaves) ++ codes "\n")) ++ leaf_lines interface 0 leaves gaps

@@ -42,7 +42,8 @@ pub fn gather(
     addresses: &[Address],
 ) -> Result<Vec<Candidate>, NoMemory>
     requires { length pre.now.paths.items ≤ 8 }
-    ensures { let g = gathering_of pre.now role addresses.now in IfOk result (λ v. v.items ≡ map (levels.keyed g) (survivors g)) }
+    ensures { let g = gathering_of pre.now role addresses.now in
+        IfOk result (λ v. v.items ≡ map (levels.keyed g) (survivors g)) }
 {
     let mut candidates = Vec::new(alloc);
     for path in 0..pre.paths.len() {
@@ -61,7 +62,8 @@ fn add_path(
 ) -> Result<(), NoMemory>
     requires few { length pre.now.paths.items ≤ 8 }
     requires placed { path < length pre.now.paths.items }
-    ensures { OnOk result (candidates.new.items ≡ candidates.old.items ++ levels.of_path (gathering_of pre.now role addresses.now) (path, path_of pre.now path)) }
+    ensures { OnOk result (candidates.new.items ≡ candidates.old.items
+        ++ levels.of_path (gathering_of pre.now role addresses.now) (path, path_of pre.now path)) }
 {
     if path_survives(pre, role, path) {
         add_stacks(candidates, pre, role, path, addresses)
@@ -79,7 +81,8 @@ fn add_stacks(
 ) -> Result<(), NoMemory>
     requires few { length pre.now.paths.items ≤ 8 }
     requires placed { path < length pre.now.paths.items }
-    ensures { OnOk result (candidates.new.items ≡ candidates.old.items ++ levels.of_stacks (gathering_of pre.now role addresses.now) (path, path_of pre.now path)) }
+    ensures { OnOk result (candidates.new.items ≡ candidates.old.items
+        ++ levels.of_stacks (gathering_of pre.now role addresses.now) (path, path_of pre.now path)) }
 {
     for stack in [Stack::Tcp, Stack::Unix, Stack::Udp] {
         add_stack(candidates, pre, role, path, stack, addresses)?;
@@ -98,7 +101,8 @@ fn add_stack(
 ) -> Result<(), NoMemory>
     requires few { length pre.now.paths.items ≤ 8 }
     requires placed { path < length pre.now.paths.items }
-    ensures { OnOk result (candidates.new.items ≡ candidates.old.items ++ levels.of_stack (gathering_of pre.now role addresses.now) (path, path_of pre.now path) stack) }
+    ensures { OnOk result (candidates.new.items ≡ candidates.old.items
+        ++ levels.of_stack (gathering_of pre.now role addresses.now) (path, path_of pre.now path) stack) }
 {
     if stack_survives(pre, role, stack) {
         let level = make_level(pre, role, path, stack);
@@ -111,7 +115,8 @@ fn add_stack(
 fn make_level(pre: &Preconnection, role: Role, path: usize, stack: Stack) -> Level
     requires few { length pre.now.paths.items ≤ 8 }
     requires placed { path < length pre.now.paths.items }
-    ensures { (addresses : _) → result ≡ levels.level_of (gathering_of pre.now role addresses) (path, path_of pre.now path) stack }
+    ensures { (addresses : _)
+        → result ≡ levels.level_of (gathering_of pre.now role addresses) (path, path_of pre.now path) stack }
 {
     Level {
         path_key: path_key(pre, role, path),
@@ -127,7 +132,8 @@ fn add_level(
     path: &Path,
     addresses: &[Address],
 ) -> Result<(), NoMemory>
-    ensures { OnOk result (candidates.new.items ≡ candidates.old.items ++ levels.of_level level path.now addresses.now) }
+    ensures { OnOk result (candidates.new.items ≡ candidates.old.items
+        ++ levels.of_level level path.now addresses.now) }
 {
     let mut turns = Turns::new();
     for (place, address) in addresses.iter().enumerate() {
@@ -146,8 +152,10 @@ fn add_address(
     address: &Address,
 ) -> Result<(), NoMemory>
     requires { round_in turns.old (family_of address.now) + 1 < 2 ^ 64 }
-    ensures candidates { OnOk result (candidates.new.items ≡ candidates.old.items ++ levels.of_address level path.now turns.old (place, address.now)) }
-    ensures turns { turns.new ≡ (if is_reachable path.now level.stack address.now then turns_with (family_of address.now) turns.old else turns.old) }
+    ensures candidates { OnOk result (candidates.new.items ≡ candidates.old.items
+        ++ levels.of_address level path.now turns.old (place, address.now)) }
+    ensures turns { turns.new ≡ (if is_reachable path.now level.stack address.now then
+        turns_with (family_of address.now) turns.old else turns.old) }
 {
     if is_reachable(path, level.stack, address) {
         let turn = turns.take(address.family());

@@ -37,7 +37,8 @@ pub fn build_plan(
     addresses: &List<Address>,
 ) -> Result<Plan, NoMemory>
     requires { length pre.now.paths.items ≤ 8 }
-    ensures ranked { IfOk result (λ plan. listed plan ≡ plan_of (gathering_of pre.now role addresses.now.items) pre.now.race.mode pre.now.race.delay_ms) }
+    ensures ranked { IfOk result (λ plan.
+        listed plan ≡ plan_of (gathering_of pre.now role addresses.now.items) pre.now.race.mode pre.now.race.delay_ms) }
     ensures even { IfOk result (λ plan. length plan.leaves.items ≡ length plan.gaps.items) }
     ensures few { IfOk result (λ plan. length plan.leaves.items ≤ 24 * length addresses.now.items) }
     ensures placed { IfOk result (λ plan. All (λ leaf. leaf.path < length pre.now.paths.items) plan.leaves.items) }

@@ -1,5 +1,4 @@
 ghost use Rattle.std.specs.Prelude.{◌≡◌, ◌++◌, ◌<◌, Some, IfOk, OnOk, All, string_bytes, length};
-ghost use Rattle.std.specs.Fmt.{decimal};
 ghost use Rattle.taps_candidate.specs.PlanText as texts;
 
 use crate::{Leaf, Plan};
@@ -13,7 +12,8 @@ use taps_stack::Stack;
 pub fn plan_text(alloc: Global, pre: &Preconnection, plan: &Plan) -> Result<Body, NoMemory>
     requires even { length plan.now.leaves.items ≡ length plan.now.gaps.items }
     requires placed { All (λ leaf. leaf.path < length pre.now.paths.items) plan.now.leaves.items }
-    ensures { IfOk result (λ text. text ≡ texts.plan_text (texts.interface_of pre.now) plan.now.leaves.items plan.now.gaps.items) }
+    ensures { IfOk result (λ text.
+        text ≡ texts.plan_text (texts.interface_of pre.now) plan.now.leaves.items plan.now.gaps.items) }
 {
     let text = plan_string(alloc, pre, plan)?;
     Ok(Body::from_text(text))
@@ -24,7 +24,8 @@ pub fn plan_text(alloc: Global, pre: &Preconnection, plan: &Plan) -> Result<Body
 pub fn plan_string(alloc: Global, pre: &Preconnection, plan: &Plan) -> Result<String, NoMemory>
     requires even { length plan.now.leaves.items ≡ length plan.now.gaps.items }
     requires placed { All (λ leaf. leaf.path < length pre.now.paths.items) plan.now.leaves.items }
-    ensures { IfOk result (λ text. string_bytes text ≡ texts.plan_text (texts.interface_of pre.now) plan.now.leaves.items plan.now.gaps.items) }
+    ensures { IfOk result (λ text.
+        string_bytes text ≡ texts.plan_text (texts.interface_of pre.now) plan.now.leaves.items plan.now.gaps.items) }
 {
     let count = plan.leaves.len();
     let mut text = format!(in alloc; "leaves {count}\n")?;
@@ -40,7 +41,8 @@ fn append_leaves(
 ) -> Result<(), AllocError>
     requires even { length leaves.now ≡ length gaps.now }
     requires placed { All (λ leaf. leaf.path < length pre.now.paths.items) leaves.now }
-    ensures { OnOk result (string_bytes text.new ≡ string_bytes text.old ++ texts.leaf_lines (texts.interface_of pre.now) 0 leaves.now gaps.now) }
+    ensures { OnOk result (string_bytes text.new ≡ string_bytes text.old
+        ++ texts.leaf_lines (texts.interface_of pre.now) 0 leaves.now gaps.now) }
 {
     for (number, leaf) in leaves.iter().enumerate() {
         append_leaf(text, pre, number, leaf, &gaps[number])?;
@@ -57,7 +59,8 @@ fn append_leaf(
     gap: &Gap,
 ) -> Result<(), AllocError>
     requires { leaf.now.path < length pre.now.paths.items }
-    ensures { OnOk result (string_bytes text.new ≡ string_bytes text.old ++ texts.leaf_line (texts.interface_of pre.now) number leaf.now gap.now) }
+    ensures { OnOk result (string_bytes text.new ≡ string_bytes text.old
+        ++ texts.leaf_line (texts.interface_of pre.now) number leaf.now gap.now) }
 {
     let interface = &pre.path(leaf.path as usize).interface;
     let stack = StackWord(leaf.target.stack);

@@ -51,9 +51,6 @@ pub record Counted (fs : List Layer) (k : ℕ) (x : List ℕ) (a watch d before 
   pub ahead : d ≤ watch → now ≡ before
   pub behind : a ≤ watch → CountsHanded (drop a fs) k x (watch - a) before now
 
-pub counted_none : (fs : List Layer) (k : ℕ) (x : List ℕ) (a watch d before : ℕ) → Counted fs k x a watch d before before
-counted_none fs k x a watch d before = record { below = λ _. refl; ahead = λ _. refl; behind = λ _. none refl }
-
 counts_same : (fs : List Layer) (k : ℕ) (x : List ℕ) (n before now after : ℕ) → after ≡ now → CountsHanded fs k x n before now → CountsHanded fs k x n before after
 counts_same fs k x n before now after e h = subst (λ (v : ℕ). CountsHanded fs k x n before v) (sym e) h
 
@@ -86,12 +83,6 @@ counted_below (g ∷ fs) k x body f watch before after i w e c lt =
     let e' : body ≡ g.front k x = e ∙ ap (λ (v : Layer). v.front k x) o in
     subst (λ (v : ℕ). CountsHanded (g ∷ fs) k x v before after) n (counts_below g fs k x body (watch - 1) before after w' e' (c (omega arith)))
 
--- what one call counts, by whether layer 0 is watched
-pub counts_in : (fs : List Layer) (k : ℕ) (x : List ℕ) (watch from to before after : ℕ) → (watch ≡ 0 → after + from ≡ before + to) → (0 < watch → (m : ℕ) × CountsHanded fs k (take m x) watch before after) →
-    CountsIn fs k x watch from to before after
-counts_in fs k x zero from to before after z s = z refl
-counts_in fs k x (suc n) from to before after z s = s (omega arith)
-
 -- what is counted where layer 0 alone looked
 pub counts_first : (fs : List Layer) (k : ℕ) (x : List ℕ) (watch from to before after : ℕ) → (eqb watch 0 ≡ true → after + from ≡ before + to) → (eqb watch 0 ≡ false → after ≡ before) → CountsIn fs k x watch from to before after
 counts_first fs k x zero from to before after z s = z refl
@@ -104,10 +95,3 @@ counts_message fs k x zero from to before now after z s u c = omega (arith, z re
 counts_message fs k x (suc n) from to before now after z s u c =
     let e : now ≡ before = s (not_equal (suc n) 0 (λ e. absurd (omega arith))) in
     (to, subst (λ (v : ℕ). CountsHanded fs k (take to x) (suc n) v after) e (c (omega arith)))
-
-pub counts_to : (fs : List Layer) (k : ℕ) (x : List ℕ) (watch from to last before after : ℕ) → to ≡ last → CountsIn fs k x watch from to before after → CountsIn fs k x watch from last before after
-counts_to fs k x watch from to last before after e h = subst (λ (v : ℕ). CountsIn fs k x watch from v before after) e h
-
--- no byte
-pub counts_nothing : (fs : List Layer) (k : ℕ) (x : List ℕ) (watch from to before : ℕ) → from ≡ to → CountsIn fs k x watch from to before before
-counts_nothing fs k x watch from to before e = counts_in fs k x watch from to before before (λ _. omega arith) (λ _. (0, none refl))

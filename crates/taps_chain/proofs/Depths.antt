@@ -26,12 +26,6 @@ drop-layer [] d f h = cc h
 drop-layer (g ∷ fs) zero f h = let e : g ≡ f = cc in ap (λ (v : Layer). v ∷ fs) e
 drop-layer (g ∷ fs) (suc d) f h = drop-layer fs d f h
 
--- one layer more is a framer
-pub one_more_framer : (fs : List Layer) (d : ℕ) (f : Layer) → slice_get fs d ≡ Some f → AreFramers (take d fs) → IsFramer f → AreFramers (take (d + 1) fs)
-one_more_framer [] d f h w l = absurd (cc h)
-one_more_framer (g ∷ fs) zero f h w l = let e : f ≡ g = cc in (subst IsFramer e l, tt)
-one_more_framer (g ∷ fs) (suc d) f h w l = let e : suc d + 1 ≡ suc (d + 1) = omega arith in subst (λ (n : ℕ). AreFramers (take n (g ∷ fs))) (sym e) (w.0, one_more_framer fs d f h w.1 l)
-
 -- each layer is a framer
 pub framer_at : (fs : List Layer) (d : ℕ) (f : Layer) → slice_get fs d ≡ Some f → AreFramers fs → IsFramer f
 framer_at [] d f h w = absurd (cc h)

@@ -1,7 +1,6 @@
 -- Layers that are taken off, one after the other.
 use Rattle.std.proofs.Common.{◌≡◌, ℕ, suc, ◌+◌, ◌<◌, ◌≤◌, true, false, List, [], ◌∷◌, length, take, drop, Some, slice_get, refl, ap, sym, subst, ◌∙◌, arith}
 use Rattle.std.proofs.Math.Seq.{take-length}
-use Rattle.std.proofs.lemmas.List.{drop_all}
 use Rattle.taps_framer.specs.Layers.{Layer, IsLawful, IsWholeFrame, is_viable, lives, first_frame}
 use Rattle.taps_framer.proofs.Scans.{run_whole, run_whole_length}
 use Rattle.taps_framer.proofs.Sights.{bad_here}
@@ -40,11 +39,6 @@ reached_none fs k x a = record {
   good = λ m u c. (u, c);
 }
 
-pub reached_all : (fs : List Layer) (k : ℕ) (x : List ℕ) (a d : ℕ) (current : List ℕ) → d ≡ length fs → Reached fs k x a d current → IsSpoken (drop a fs) k current × (x ≡ chained (drop a fs) k current)
-reached_all fs k x a d current e r =
-    let n : drop d fs ≡ [] = drop_all d fs (omega arith) in
-    r.good current (subst (λ (v : List Layer). IsSpoken v k current) (sym n) refl) (subst (λ (v : List Layer). current ≡ chained v k current) (sym n) refl)
-
 module _ (fs : List Layer) (k : ℕ) (x : List ℕ) (a d : ℕ) (current seen : List ℕ) (f : Layer) (h : slice_get fs d ≡ Some f) (r : Reached fs k x a d current) (same : seen ≡ current) where
   split : drop d fs ≡ f ∷ drop (suc d) fs
   split = drop-layer fs d f h
@@ -80,13 +74,6 @@ module _ (fs : List Layer) (k : ℕ) (x b : List ℕ) (f : Layer) (h : slice_get
 
   pub whole_below : (m : List ℕ) → IsSpoken (drop 1 fs) k m → b ≡ chained (drop 1 fs) k m → IsSpoken fs k m × (x ≡ chained fs k m)
   whole_below m s c = one_off.good m s c
-
-  pub fault_below : (l p : ℕ) → (j : ℕ) × ((l ≡ j + 1) × IsBadIn (drop 1 fs) k b j p) → IsBadIn fs k x l p
-  fault_below l p w =
-      let r = one_off.bad w.0 p w.1.1 in
-      let n : w.0 + 1 ≡ r.0 + 0 = r.1.0 in
-      let o : r.0 ≡ l = omega (arith, w.1.0) in
-      subst (λ (v : ℕ). IsBadIn fs k x v p) o r.1.1
 
 -- the layer nearest to the transport is at fault
 pub fault_first : (fs : List Layer) (k : ℕ) (x : List ℕ) (f : Layer) → slice_get fs 0 ≡ Some f → (p : ℕ) → IsInexact f k x p → IsBadIn fs k x 0 p

@@ -7,11 +7,10 @@ use Rattle.taps_framer.proofs.Prefixes.{take_drop, take_front}
 use Rattle.taps_chain.specs.Chained.{chained, IsSpoken, spelling}
 use Rattle.taps_chain.specs.Heard.{needs, fails, IsEnding, IsBegun, IsHeard}
 use Rattle.taps_chain.specs.ChainLaws.{AreFramers}
-use Rattle.taps_chain.specs.Looks.{IsSettled, HasLooked}
+use Rattle.taps_chain.specs.Looks.{HasLooked}
 use Rattle.taps_chain.specs.Hearings.{IsHearingOf, unread_of, IsUnderWay, Waits}
 use Rattle.taps_chain.specs.declared.heard.BadAt.{BadAt}
 use Rattle.taps_chain.specs.declared.heard.Heard.TheVariants as heard
-use Rattle.taps_chain.specs.declared.look.Look.{Look}
 use Rattle.taps_chain.specs.declared.progress.Progress.{Progress}
 use Rattle.taps_chain.proofs.Spelled.{begun_none, begun_more, begun_ends, begun_heard}
 use Rattle.taps_chain.proofs.Delimits.{spelling_long, takes_some}
@@ -48,28 +47,6 @@ module _ (fs : List Layer) (n : 0 < length fs) (w : AreFramers fs) (f : Layer) (
   module _ (ms : List (List ℕ)) (p : Progress) (h : IsUnderWay fs f scans x ms p) where
     held : length (unread_of p x) ≡ p.fed - p.taken
     held = length-take-le (p.fed - p.taken) (drop p.taken x) (omega (arith, h.came, h.taken, length-drop p.taken x))
-
-    -- more bytes come
-    pub more_came : (q : Progress) → p.fed ≤ q.fed → q.fed ≤ length x → q.taken ≡ p.taken → q.index ≡ p.index → q.look ≡ p.look → IsUnderWay fs f scans x ms q
-    more_came q a c t i l =
-        let k : p.look.scanned ≤ p.fed - p.taken = omega (arith, h.looked.within, held) in
-        let d : p.fed - p.taken ≤ q.fed - p.taken = omega arith in
-        let g : length (take (q.fed - p.taken) (drop p.taken x)) ≡ q.fed - p.taken = length-take-le (q.fed - p.taken) (drop p.taken x) (omega (arith, h.came, h.taken, length-drop p.taken x)) in
-        let s : take p.look.scanned (unread_of p x) ≡ take p.look.scanned (take (q.fed - p.taken) (drop p.taken x)) =
-        take-take p.look.scanned (p.fed - p.taken) (drop p.taken x) k ∙ sym (take-take p.look.scanned (q.fed - p.taken) (drop p.taken x) (omega arith)) in
-        let r : HasLooked f scans p.index (take (q.fed - p.taken) (drop p.taken x)) p.look = record {
-          within = omega (arith, g);
-          settled = subst (λ (u : List ℕ). IsSettled f scans p.index u p.look.seen) s h.looked.settled;
-        } in
-        let r1 : HasLooked f scans q.index (take (q.fed - p.taken) (drop p.taken x)) p.look = subst (λ (u : ℕ). HasLooked f scans u (take (q.fed - p.taken) (drop p.taken x)) p.look) (sym i) r in
-        let r2 : HasLooked f scans q.index (unread_of q x) p.look = subst (λ (u : ℕ). HasLooked f scans q.index (take (q.fed - u) (drop u x)) p.look) (sym t) r1 in
-        record {
-          came = c;
-          taken = omega (arith, h.taken);
-          begun = subst (λ (u : ℕ). IsBegun fs 0 x ms (drop u x)) (sym t) h.begun;
-          index = i ∙ h.index;
-          looked = subst (λ (u : Look). HasLooked f scans q.index (unread_of q x) u) (sym l) r2;
-        }
 
     -- there are at most as many messages and bytes behind them as bytes
     pub index_bound : p.index + length (drop p.taken x) ≤ length x

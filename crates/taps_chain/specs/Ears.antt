@@ -18,8 +18,10 @@ state_of ears = ears.stream
 
 -- The ears are sound: their layers keep the laws of framers, and what the framer of layer 0 has seen of the scanned
 -- bytes is so. New ears are, and each call leaves them so.
-pub record IsSound {X : Type 0} {F : X → Type 0} (boxed : (x : X) → framer.Ghosts (F x)) (ears : Ears X F) : Type 0 where
+pub record IsSound {X : Type 0} {F : X → Type 0}
+    (boxed : (x : X) → framer.Ghosts (F x)) (ears : Ears X F) : Type 0 where
   pub framers : AreFramers (layers_of boxed ears.chain)
   pub first : slice_get (layers_of boxed ears.chain) 0 ≡ Some ((boxed ears.first.now.vtable).layer ears.first.now.value)
-  pub looked : HasLooked ((boxed ears.first.now.vtable).layer ears.first.now.value) ((boxed ears.first.now.vtable).scans ears.first.now.value)
+  pub looked : HasLooked ((boxed ears.first.now.vtable).layer ears.first.now.value)
+      ((boxed ears.first.now.vtable).scans ears.first.now.value)
       ears.stream.index ears.stream.unread record { scanned = ears.stream.scanned; seen = ears.seen }

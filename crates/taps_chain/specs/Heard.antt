@@ -25,7 +25,8 @@ pub record IsBegun (fs : List Layer) (k : ℕ) (x : List ℕ) (ms : List (List �
   pub spoken : AreSpoken fs k ms
 
 -- heard: the bytes are these messages, numbered from an index on, and a rest that ends the hearing
-pub record IsHeard (fs : List Layer) (k : ℕ) (x : List ℕ) (ms : List (List ℕ)) (e : Ending) (rest : List ℕ) : Type 0 where
+pub record IsHeard (fs : List Layer) (k : ℕ) (x : List ℕ)
+    (ms : List (List ℕ)) (e : Ending) (rest : List ℕ) : Type 0 where
   pub split : x ≡ spelling fs k ms ++ rest
   pub spoken : AreSpoken fs k ms
   pub ends : IsEnding fs (k + length ms) rest e

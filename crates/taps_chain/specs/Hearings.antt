@@ -28,7 +28,8 @@ abbrev pub unread_of : Progress → List ℕ → List ℕ
 unread_of p x = take (p.fed - p.taken) (drop p.taken x)
 
 -- the messages begin all the bytes, those that came and those still to come, and layer 0 has looked at unread ones
-pub record IsUnderWay (fs : List Layer) (f : Layer) (scans : ℕ → Scan → List ℕ → Type 0) (x : List ℕ) (ms : List (List ℕ)) (p : Progress) : Type 0 where
+pub record IsUnderWay (fs : List Layer) (f : Layer) (scans : ℕ → Scan → List ℕ → Type 0)
+    (x : List ℕ) (ms : List (List ℕ)) (p : Progress) : Type 0 where
   pub came : p.fed ≤ length x
   pub taken : p.taken ≤ p.fed
   pub begun : IsBegun fs 0 x ms (drop p.taken x)
@@ -36,6 +37,7 @@ pub record IsUnderWay (fs : List Layer) (f : Layer) (scans : ℕ → Scan → Li
   pub looked : HasLooked f scans p.index (unread_of p x) p.look
 
 -- besides, more of the bytes are needed for the next message
-pub record Waits (fs : List Layer) (f : Layer) (scans : ℕ → Scan → List ℕ → Type 0) (x : List ℕ) (ms : List (List ℕ)) (p : Progress) : Type 0 where
+pub record Waits (fs : List Layer) (f : Layer) (scans : ℕ → Scan → List ℕ → Type 0)
+    (x : List ℕ) (ms : List (List ℕ)) (p : Progress) : Type 0 where
   pub under_way : IsUnderWay fs f scans x ms p
   pub needs_more : IsEnding fs p.index (unread_of p x) needs

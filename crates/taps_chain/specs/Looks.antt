@@ -14,7 +14,8 @@ IsSettled f scans k x seen.Whole = IsWholeFrame f k x
 IsSettled f scans k x seen.Bad = (0 < length x) × (is_viable f k (take (length x - 1) x) ≡ true) × (lives f k x ≡ false)
 
 -- what is seen in the first bytes of the unread ones, as many as were scanned
-pub record HasLooked (f : Layer) (scans : ℕ → Scan → List ℕ → Type 0) (k : ℕ) (unread : List ℕ) (look : Look) : Type 0 where
+pub record HasLooked (f : Layer) (scans : ℕ → Scan → List ℕ → Type 0)
+    (k : ℕ) (unread : List ℕ) (look : Look) : Type 0 where
   pub within : look.scanned ≤ length unread
   pub settled : IsSettled f scans k (take look.scanned unread) look.seen
 
@@ -25,7 +26,8 @@ HasScanned unread scanned seen.Whole = Unit {0}
 HasScanned unread scanned seen.Bad = Unit {0}
 
 -- a look goes on at the unread bytes, up to the one that settles it
-pub record LooksOn (f : Layer) (scans : ℕ → Scan → List ℕ → Type 0) (k : ℕ) (unread : List ℕ) (old new : Look) : Type 0 where
+pub record LooksOn (f : Layer) (scans : ℕ → Scan → List ℕ → Type 0)
+    (k : ℕ) (unread : List ℕ) (old new : Look) : Type 0 where
   pub looked : HasLooked f scans k unread new
   pub forward : old.scanned ≤ new.scanned
   pub all : HasScanned unread new.scanned new.seen

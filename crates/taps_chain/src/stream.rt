@@ -23,9 +23,16 @@ impl Model for Stream {
 
     ghost Value = { StreamState };
 
-    ghost view = { λ s. record { unread = drop s.from s.bytes.items; index = s.index; bad = s.bad; room = s.room; scanned = s.scanned } };
+    ghost view = { λ s. record {
+      unread = drop s.from s.bytes.items;
+      index = s.index;
+      bad = s.bad;
+      room = s.room;
+      scanned = s.scanned;
+    } };
 
-    ghost invariant = { λ s. (s.from + s.scanned ≤ vec_len s.bytes) × (vec_len s.bytes + s.room ≤ vec_capacity s.bytes) };
+    ghost invariant = { λ s. (s.from + s.scanned ≤ vec_len s.bytes)
+        × (vec_len s.bytes + s.room ≤ vec_capacity s.bytes) };
 }
 
 impl Stream {
@@ -131,7 +138,11 @@ impl Stream {
     pub(crate) fn take_out(&mut self)
         requires { self.old.index < 2 ^ 64 - 1 }
         ensures { self.new ≡
-            record self.old { unread = drop self.old.scanned self.old.unread; index = self.old.index + 1; scanned = 0 } }
+            record self.old {
+              unread = drop self.old.scanned self.old.unread;
+              index = self.old.index + 1;
+              scanned = 0;
+            } }
     {
         self.from += self.scanned;
         self.scanned = 0;

@@ -1,4 +1,4 @@
-ghost use Rattle.std.specs.Prelude.{◌≡◌, ◌<◌, ◌++◌, [], true, length, IfOk, IfErr, OnOk};
+ghost use Rattle.std.specs.Prelude.{◌≡◌, ◌<◌, true, IfOk, IfErr, OnOk};
 ghost use Rattle.taps_chain.specs.Chained.{chained, chain_refusal, IsSpoken};
 ghost use Rattle.taps_chain.specs.Layers.{layers_of};
 ghost use Rattle.taps_chain.specs.Wraps.{IsRefusal};

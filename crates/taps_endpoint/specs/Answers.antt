@@ -42,11 +42,14 @@ read_inet6_ip text = answer_as ips.V6 (answer_of step_inet6 at_end_inet6 start_i
 
 -- an IPv4 text and its port
 unfoldable pub read_inet4 : List ℕ → Result Address ℕ
-read_inet4 text = answer_as (λ v. V4 v.0 v.1) (answer_of (step_with_port step_inet4 at_end_inet4) value_with_port (Inside (fresh Zero)) text)
+read_inet4 text = answer_as (λ v. V4 v.0 v.1)
+    (answer_of (step_with_port step_inet4 at_end_inet4) value_with_port (Inside (fresh Zero)) text)
 
 -- an IPv6 text in brackets and its port
 unfoldable pub read_inet6 : List ℕ → Result Address ℕ
-read_inet6 text = answer_as (λ v. V6 v.0 v.1) (answer_of (step_with_port (step_bracketed step_inet6 at_end_inet6 start_inet6) value_bracketed) value_with_port (Inside Outside) text)
+read_inet6 text = answer_as (λ v. V6 v.0 v.1)
+    (answer_of (step_with_port (step_bracketed step_inet6 at_end_inet6 start_inet6) value_bracketed)
+    value_with_port (Inside Outside) text)
 
 -- `unix:` and a path
 unfoldable pub read_unix : List ℕ → Result Address ℕ
@@ -54,8 +57,10 @@ read_unix text = answer_as Unix (answer_of step_unix at_end_unix Start text)
 
 -- the address of a text of a host's address, or the place where no such text goes on
 unfoldable pub ip_answer : List ℕ → Result Ip AddressError
-ip_answer text = answer_with (λ place. record { place = place }) (answer_either (read_inet4_ip text) (read_inet6_ip text))
+ip_answer text =
+    answer_with (λ place. record { place = place }) (answer_either (read_inet4_ip text) (read_inet6_ip text))
 
 -- the address of an address text, or the place where no such text goes on
 unfoldable pub address_answer : List ℕ → Result Address AddressError
-address_answer text = answer_with (λ place. record { place = place }) (answer_either (read_inet4 text) (answer_either (read_inet6 text) (read_unix text)))
+address_answer text = answer_with (λ place. record { place = place })
+    (answer_either (read_inet4 text) (answer_either (read_inet6 text) (read_unix text)))

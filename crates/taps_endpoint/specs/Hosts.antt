@@ -10,4 +10,5 @@ find_host (entry ∷ more) name = if bytes_eq name entry.0 then Some entry.1 els
 -- the table after a name was given these addresses; a new name goes last
 abbrev pub put_host : List (List ℕ × List Ip) → List ℕ → List Ip → List (List ℕ × List Ip)
 put_host [] name ips = (name, ips) ∷ []
-put_host (entry ∷ more) name ips = if bytes_eq name entry.0 then (entry.0, ips) ∷ more else entry ∷ put_host more name ips
+put_host (entry ∷ more) name ips =
+    if bytes_eq name entry.0 then (entry.0, ips) ∷ more else entry ∷ put_host more name ips

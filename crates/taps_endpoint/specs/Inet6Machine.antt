@@ -26,7 +26,8 @@ reading front fields token = record { front = front; fields = fields; token = to
 -- the first digit of a field
 abbrev pub begin : Option (List ℕ) → List ℕ → ℕ → Option Inet6State
 begin front fields b =
-    option_map (λ d. reading front fields (Digits d 1 (if quad_fits front fields then step_inet4 (fresh Zero) b else None))) (hex_digit b)
+    option_map (λ d. reading front fields
+    (Digits d 1 (if quad_fits front fields then step_inet4 (fresh Zero) b else None))) (hex_digit b)
 
 -- the `::` was read, of which there is one
 abbrev pub open_gap : Option (List ℕ) → List ℕ → Option Inet6State
@@ -35,7 +36,8 @@ open_gap (Some front) fields = None
 
 -- a `:` was read behind a field, where there is room for another
 abbrev pub after_field : Option (List ℕ) → List ℕ → ℕ → Option Inet6State
-after_field front fields value = if nat_lt (length fields + 1) (room front) then Some (reading front (fields ++ value ∷ []) Colon) else None
+after_field front fields value =
+    if nat_lt (length fields + 1) (room front) then Some (reading front (fields ++ value ∷ []) Colon) else None
 
 -- one more byte is read
 abbrev pub next : Option (List ℕ) → List ℕ → Token → ℕ → Option Inet6State
@@ -46,7 +48,8 @@ next front fields Colon b = if b == 58 then open_gap front fields else begin fro
 next front fields (Digits value count quad) b =
     if b == 58 then after_field front fields value
     else if b == 46 then option_map (λ s. reading front fields (Quad s)) (option_and_then (λ s. step_inet4 s b) quad)
-    else if nat_lt count 4 then option_map (λ d. reading front fields (Digits (16 * value + d) (count + 1) (option_and_then (λ s. step_inet4 s b) quad))) (hex_digit b)
+    else if nat_lt count 4 then option_map (λ d. reading front fields
+    (Digits (16 * value + d) (count + 1) (option_and_then (λ s. step_inet4 s b) quad))) (hex_digit b)
     else None
 next front fields (Quad s) b = option_map (λ t. reading front fields (Quad t)) (step_inet4 s b)
 
@@ -64,6 +67,7 @@ abbrev pub quad_fields : Before → ℕ → Option (List ℕ)
 quad_fields (Three a b c) d = Some ((256 * a + b) ∷ (256 * c + d) ∷ [])
 quad_fields _ d = None
 
+-- the two fields for which an IPv4 tail stands, if it is whole
 abbrev pub quad_of : Inet4State → Option (List ℕ)
 quad_of s = option_and_then (quad_fields s.before) s.number
 
@@ -97,7 +101,8 @@ SmallToken _ = Unit {0}
 
 -- there is room for what is read now
 abbrev pub Roomy : Option (List ℕ) → List ℕ → Token → Type 0
-Roomy front fields (Digits value count quad) = (length fields < room front) × IfSome quad (λ _. length fields + 2 ≤ room front)
+Roomy front fields (Digits value count quad) =
+    (length fields < room front) × IfSome quad (λ _. length fields + 2 ≤ room front)
 Roomy front fields (Quad s) = length fields + 2 ≤ room front
 Roomy front fields Colon = length fields < room front
 Roomy front fields Gap = length fields ≤ room front

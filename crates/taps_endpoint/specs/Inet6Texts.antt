@@ -24,7 +24,8 @@ pub record IsField (value : ℕ) (text : List ℕ) : Type 0 where
 -- fields with a `:` behind each
 abbrev pub AreLed : List ℕ → List ℕ → Type 0
 AreLed [] text = text ≡ []
-AreLed (value ∷ values) text = (field : List ℕ) × (rest : List ℕ) × IsField value field × (text ≡ field ++ 58 ∷ rest) × AreLed values rest
+AreLed (value ∷ values) text =
+    (field : List ℕ) × (rest : List ℕ) × IsField value field × (text ≡ field ++ 58 ∷ rest) × AreLed values rest
 
 -- an IPv4 text, which stands for two fields
 pub record IsQuad (high low : ℕ) (text : List ℕ) : Type 0 where

@@ -36,5 +36,6 @@ pub record IsPadded (bytes : List ℕ) (count : ℕ) : Type 0 where
 pub padded_again : (bytes : List ℕ) (count : ℕ) → IsPadded bytes count → padded (take count bytes) ≡ bytes
 padded_again bytes count h = sym h.unused
 
+-- so many bytes of a padded path are its count
 pub count_again : (bytes : List ℕ) (count : ℕ) → IsPadded bytes count → length (take count bytes) ≡ count
 count_again bytes count h = length-take-le count bytes (rw h.whole h.fits)

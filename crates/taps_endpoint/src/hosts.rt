@@ -36,7 +36,8 @@ impl Hosts {
     pub fn put(&mut self, name: Name, ips: List<Ip>) -> Result<(), NoMemory>
         ensures table { OnOk result (self.new ≡ put_host self.old name ips.items) }
         ensures set { OnOk result (find_host self.new name ≡ Some ips.items) }
-        ensures others { OnOk result ((other : Items ℕ) → bytes_eq other name ≡ false → find_host self.new other ≡ find_host self.old other) }
+        ensures others { OnOk result ((other : Items ℕ) → bytes_eq other name ≡ false
+            → find_host self.new other ≡ find_host self.old other) }
         ensures unchanged { OnErr result (self.new ≡ self.old) }
     {
         let alloc = *self.table.allocator();

@@ -137,7 +137,8 @@ impl Inet6State {
 
     fn more_digits(&mut self, value: u16, count: u8, quad: Option<Inet4State>, byte: u8) -> bool
         requires { IsSmall (reading self.old.front self.old.fields (Token.Digits value count quad)) }
-        ensures steps { Advances (next self.old.front self.old.fields (Token.Digits value count quad) byte) result self.new }
+        ensures steps { Advances
+            (next self.old.front self.old.fields (Token.Digits value count quad) byte) result self.new }
         ensures small { IsTrue result → IsSmall self.new }
     {
         if byte == b':' {
@@ -167,7 +168,8 @@ impl Inet6State {
         requires front { IfSome self.old.front (λ f. length f ≤ 7) }
         requires room { IfSome quad (λ _. length self.old.fields + 2 ≤ room self.old.front) }
         requires small { IfSome quad AreOctets }
-        ensures steps { Advances (option_map (λ s. reading self.old.front self.old.fields (Token.Quad s)) quad) result self.new }
+        ensures steps { Advances
+            (option_map (λ s. reading self.old.front self.old.fields (Token.Quad s)) quad) result self.new }
         ensures small { IsTrue result → IsSmall self.new }
     {
         match quad {

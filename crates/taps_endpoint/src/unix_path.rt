@@ -34,7 +34,10 @@ impl Model for UnixPath {
 
     ghost inverse = { λ path. record { bytes = padded path; count = length path } };
 
-    ghost inverse_ok = { λ p h i. record { bytes = padded_again p.bytes p.count h i; count = count_again p.bytes p.count h i } };
+    ghost inverse_ok = { λ p h i. record {
+      bytes = padded_again p.bytes p.count h i;
+      count = count_again p.bytes p.count h i;
+    } };
 }
 
 impl UnixPath {

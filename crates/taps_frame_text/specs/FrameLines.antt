@@ -21,7 +21,8 @@ lines_after (Some l) lines = []
 abbrev pub frame_lines : List Layer → ℕ → List (List ℕ) → List ℕ
 frame_lines fs k [] = []
 frame_lines fs k (m ∷ ms) =
-    framed_line (chain_refusal fs k m) k (chained fs k m) ++ lines_after (chain_refusal fs k m) (frame_lines fs (k + 1) ms)
+    framed_line (chain_refusal fs k m) k (chained fs k m)
+    ++ lines_after (chain_refusal fs k m) (frame_lines fs (k + 1) ms)
 
 -- whether none of the bodies is refused
 abbrev pub are_all_spoken : List Layer → ℕ → List (List ℕ) → Bool

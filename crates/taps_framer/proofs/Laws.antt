@@ -83,10 +83,6 @@ first_alone f i l x used h e =
     ap (λ (v : List ℕ). f.front i v) (t ∙ sym (append-nil (first_frame f i x))) ∙ l.fronts (f.front i x) [] w.spoken in
     (record { spoken = subst (λ (v : List ℕ). f.speaks v ≡ true) (sym b) w.spoken; exact = ap (λ (v : List ℕ). f.frame i v) b ∙ sym t }, b)
 
--- one frame holds itself
-pub whole_holds : (f : Layer) (i : ℕ) → IsLawful f i → (x : List ℕ) → IsWholeFrame f i x → holds_whole_frame f i x ≡ true
-whole_holds f i l x w = (holds_this f i l x (f.front i x) [] w.spoken (sym w.exact ∙ sym (append-nil (first_frame f i x)))).0
-
 -- the frame of a spoken body is one frame by itself
 pub frame_alone : (f : Layer) (i : ℕ) → IsLawful f i → (b x : List ℕ) → f.speaks b ≡ true → x ≡ f.frame i b → IsWholeFrame f i x
 frame_alone f i l b x s e =

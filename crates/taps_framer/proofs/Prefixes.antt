@@ -12,10 +12,6 @@ is_prefix-split [] z h = grind (arith, common_steps)
 is_prefix-split (a ∷ x) [] h = cc
 is_prefix-split (a ∷ x) (b ∷ z) h = grind (arith, common_steps, is_prefix-split x z)
 
-pub is_prefix-refl : (x : List ℕ) → is_prefix x x ≡ true
-is_prefix-refl [] = refl
-is_prefix-refl (a ∷ x) = grind (arith, common_steps, is_prefix-refl x)
-
 pub append-cancel : (x y z : List ℕ) → x ++ y ≡ x ++ z → y ≡ z
 append-cancel [] y z h = h
 append-cancel (a ∷ x) y z h = append-cancel x y z (cc)

@@ -25,7 +25,8 @@ IsRun f scans i x bytes (run.More scan) = Represents f scans i scan (x ++ bytes)
 IsRun f scans i x bytes (run.Whole used) =
     (1 ≤ used) × (used ≤ length bytes) × IsWholeFrame f i (x ++ take used bytes)
 IsRun f scans i x bytes (run.Bad place) =
-    (place < length bytes) × (is_viable f i (x ++ take place bytes) ≡ true) × (lives f i (x ++ take (place + 1) bytes) ≡ false)
+    (place < length bytes) × (is_viable f i (x ++ take place bytes) ≡ true)
+    × (lives f i (x ++ take (place + 1) bytes) ≡ false)
 
 -- the number of the further bytes that were looked at
 abbrev pub looked : Run → List ℕ → ℕ

@@ -31,7 +31,8 @@ pub fn write_in(
     requires { (layer framer.now).speaks body.now ≡ true }
     ensures written { OnOk result (out.new.items ≡ out.old.items ++ (layer framer.now).frame index body.now) }
     ensures unchanged { OnErr result (out.new.items ≡ out.old.items) }
-    ensures room { vec_len out.old + length ((layer framer.now).frame index body.now) ≤ vec_capacity out.old → IsOk result }
+    ensures room { vec_len out.old + length ((layer framer.now).frame index body.now) ≤ vec_capacity out.old
+        → IsOk result }
 {
     framer.write(index, body, out)
 }

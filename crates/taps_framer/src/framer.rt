@@ -33,7 +33,8 @@ pub trait Framer: Drop {
         requires { (layer self.now).speaks body.now ≡ true }
         ensures written { OnOk result (out.new.items ≡ out.old.items ++ (layer self.now).frame index body.now) }
         ensures unchanged { OnErr result (out.new.items ≡ out.old.items) }
-        ensures room { vec_len out.old + length ((layer self.now).frame index body.now) ≤ vec_capacity out.old → IsOk result };
+        ensures room { vec_len out.old + length ((layer self.now).frame index body.now) ≤ vec_capacity out.old
+            → IsOk result };
 
     /// What stands at the start of a buffer.
     fn read(&self, index: u64, buffer: &[u8]) -> Sight

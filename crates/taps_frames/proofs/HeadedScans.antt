@@ -37,12 +37,6 @@ module _ (f : Format) (number : ℕ → List ℕ → ℕ) (l : IsLawfulFormat f 
   pub laws : IsLawful (headed f) i
   laws = lawful f i (l.heads i) (l.bounded i)
 
-  pub part_less : (x : List ℕ) → IsBegun f i x → length x < 4194304
-  part_less x g =
-      let h = l.bounded i (f.told i x) g.is_length in
-      let s = g.some in
-      omega (arith, h, s, ap length g.goes_on, length-append x g.more)
-
   pub head_represents : (count value : ℕ) (x : List ℕ) → IsHeadPart f number i count value x →
       Represents (headed f) (headed_scan f number) i (record { phase = 0; length = count; rest = value }) x
   head_represents count value x p =

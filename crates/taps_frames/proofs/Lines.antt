@@ -46,9 +46,6 @@ before-all b h = ap before_end (sym (append-nil b)) ∙ before-line b [] h ∙ a
 line-left : (b y : List ℕ) → is_one_line (b ++ y) ≡ true → is_one_line b ≡ true
 line-left b y h = and-left (is_one_line b) (is_one_line y) (sym (list_all-append is_inner b y) ∙ h)
 
-not_one_line : (b y : List ℕ) → is_one_line (b ++ 10 ∷ y) ≡ true → ⊥
-not_one_line b y h = let e : false ≡ true = and-right (is_one_line b) (is_one_line (10 ∷ y)) (sym (list_all-append is_inner b (10 ∷ y)) ∙ h) in absurd (cc)
-
 spoken : (b : List ℕ) → length b ≤ 65535 → are_bytes b ≡ true → is_one_line b ≡ true → line.speaks b ≡ true
 spoken b h a l = both _ _ (body_of 0 65535 b (omega arith) h a) l
 

@@ -1,9 +1,8 @@
 -- The spelling of bytes by one or two each.
-use Rattle.std.proofs.Common.{zero, suc, ◌+◌, ◌<◌, Bool, true, false, not, ◌||◌, ◌==◌, cond, count_by, take, length-take, get_or-take, ◌≡◌, ℕ, ◌≤◌, List, [], ◌∷◌, ◌++◌, length, get_or, refl, ap, sym, ◌∙◌, subst, arith, length-append, append_assoc, inl, inr, ◌⊎◌}
+use Rattle.std.proofs.Common.{suc, ◌+◌, ◌<◌, Bool, true, false, not, ◌||◌, ◌==◌, cond, count_by, take, length-take, get_or-take, ◌≡◌, ℕ, ◌≤◌, List, [], ◌∷◌, ◌++◌, length, get_or, refl, ap, sym, ◌∙◌, subst, arith, length-append, append_assoc, inl, inr, ◌⊎◌}
 use Rattle.std.proofs.Math.Bool.{or-true}
 use Rattle.std.proofs.lemmas.Bool.{cases_eq, ne_eqb, eq-eqb, eqb-true, not-true}
 use Rattle.std.proofs.lemmas.Grind.{flat_map-append}
-use Rattle.std.proofs.lemmas.List.Folds.{list_all-append}
 use Rattle.std.proofs.lemmas.List.Sums.{sum_by-cons}
 use Rattle.taps_framer.proofs.Bytes.{both, and-left, and-right, false_by}
 use Rattle.taps_framer.proofs.Prefixes.{append-cancel, append-nil}
@@ -93,14 +92,6 @@ stuff_plain [] h = refl
 stuff_plain (c ∷ x) h =
     let n = not_special c (head_plain c x h) in
     ap (λ (w : List ℕ). w ++ stuff x) (spelled_other c n.0 n.1) ∙ ap (λ (w : List ℕ). c ∷ w) (stuff_plain x (and-right (not (is_special c)) (are_plain x) h))
-
-pub plain-left : (x y : List ℕ) → are_plain (x ++ y) ≡ true → are_plain x ≡ true
-plain-left x y h = and-left (are_plain x) (are_plain y) (sym (list_all-append (λ c. not (is_special c)) x y) ∙ h)
-
-pub plain_at : (x : List ℕ) (i : ℕ) → are_plain x ≡ true → i < length x → is_special (get_or x i 0) ≡ false
-plain_at [] i h k = absurd (omega arith)
-plain_at (c ∷ x) zero h k = head_plain c x h
-plain_at (c ∷ x) (suc i) h k = plain_at x i (and-right (not (is_special c)) (are_plain x) h) (omega arith)
 
 -- none was found
 pub none_special : (x : List ℕ) → ((k : ℕ) → k < length x → is_special (get_or x k 0) ≡ true → ⊥) → are_plain x ≡ true

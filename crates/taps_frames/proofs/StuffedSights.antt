@@ -1,6 +1,5 @@
 -- What is seen as the bytes of a stuffed frame come.
 use Rattle.std.proofs.Common.{◌≡◌, ℕ, ◌+◌, ◌<◌, ◌≤◌, Bool, true, false, List, [], ◌∷◌, ◌++◌, length, get_or, take, drop, refl, ap, sym, ◌∙◌, subst, arith, length-append, append_assoc, length-take, length-drop, ◌⊎◌, inl, inr}
-use Rattle.std.proofs.lemmas.List.{take-take}
 use Rattle.std.proofs.Math.Seq.{take-add}
 use Rattle.taps_framer.specs.declared.scan.Scan.{Scan}
 use Rattle.taps_framer.specs.Prefixes.{are_bytes}
@@ -119,17 +118,6 @@ run_represents k scan x next r p a h = elim h.told.1 [
       half_represents k (record { phase = scan.phase; length = scan.length + r; rest = 0 }) (x ++ take r next)
       (subst (λ (v : ℕ). IsPart (x ++ take r next) true v) f (subst (λ (v : List ℕ). IsPart v true scan.length) e w.1)) p.room w.0)
 ]
-
--- a look at the next bytes, at no more than there is room for
-pub look_plain : (next front : List ℕ) (m r : ℕ) → front ≡ take m next → r ≤ length front → are_plain (take r front) ≡ true →
-    (r ≤ length next) × (r ≤ m) × (are_plain (take r next) ≡ true)
-look_plain next front m r e h p =
-    let l : length front ≡ length (take m next) = ap length e in
-    let k : r ≤ m = omega (arith, h, l, length-take m next) in (
-      omega (arith, h, l, length-take m next),
-      k,
-      subst (λ (w : List ℕ). are_plain w ≡ true) (ap (λ (w : List ℕ). take r w) e ∙ take-take r m next k) p,
-    )
 
 -- the run from a place on
 pub run_within : (scan : Scan) (bytes : List ℕ) (at r : ℕ) → IsPlainRun scan (drop at bytes) r → at ≤ length bytes → at + r ≤ length bytes

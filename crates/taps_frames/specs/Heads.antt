@@ -56,8 +56,12 @@ body_behind (Whole width size) x = take size (drop width x)
 -- Bytes that do not begin with a prefix are answered so by each format that stands behind it, and of
 -- which the first byte has not come.
 abbrev pub IsOfPrefix : List ℕ → List ℕ → Head → Type 0
-IsOfPrefix p x head = (name : List ℕ) (prefix : ℕ → List ℕ) (f : Format) (i : ℕ) → prefix i ≡ p → IsBegun f i [] → IsHead (prefixed name prefix f) i x head
+IsOfPrefix p x head = (name : List ℕ) (prefix : ℕ → List ℕ) (f : Format) (i : ℕ)
+    → prefix i ≡ p → IsBegun f i [] → IsHead (prefixed name prefix f) i x head
 
 -- what is answered of some bytes is answered so of them behind a prefix of this width
 abbrev pub IsMoved : ℕ → Head → Head → Type 0
-IsMoved width inner head = (name : List ℕ) (prefix : ℕ → List ℕ) (f : Format) (i : ℕ) (x : List ℕ) → length (prefix i) ≡ width → width + length x < 2 ^ 64 → IsHead f i x inner → IsHead (prefixed name prefix f) i (prefix i ++ x) head
+IsMoved width inner head =
+    (name : List ℕ) (prefix : ℕ → List ℕ) (f : Format) (i : ℕ) (x : List ℕ)
+    → length (prefix i) ≡ width → width + length x < 2 ^ 64 → IsHead f i x inner
+    → IsHead (prefixed name prefix f) i (prefix i ++ x) head

@@ -24,9 +24,11 @@ pub record IsBodyPart (f : Format) (i size rest : ℕ) (x : List ℕ) : Type 0 w
 -- what a scan of a format represents: part of a head, or a head and less than the rest of the frame
 abbrev pub headed_scan : Format → (ℕ → List ℕ → ℕ) → ℕ → Scan → List ℕ → Type 0
 headed_scan f number i scan x =
-    ((scan.phase ≡ 0) × IsHeadPart f number i scan.length scan.rest x) ⊎ ((scan.phase ≡ 1) × IsBodyPart f i scan.length scan.rest x)
+    ((scan.phase ≡ 0) × IsHeadPart f number i scan.length scan.rest x)
+    ⊎ ((scan.phase ≡ 1) × IsBodyPart f i scan.length scan.rest x)
 
--- the number that the bytes behind the first `width` make in network order, where those of four that are missing are zero
+-- the number that the bytes behind the first `width` make in network order, where those of four that are missing are
+-- zero
 abbrev pub number_behind : ℕ → ℕ → List ℕ → ℕ
 number_behind width i x = from_be_bytes w32 (drop width x)
 

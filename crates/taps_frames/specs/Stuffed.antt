@@ -64,7 +64,8 @@ pub record IsPart (x : List ℕ) (half : Bool) (n : ℕ) : Type 0 where
 -- what a scan represents: `length` bytes of the body are begun, and in the phase 1 an escape byte came last
 abbrev pub stuffed_scan : ℕ → Scan → List ℕ → Type 0
 stuffed_scan i scan x =
-    (scan.length ≤ 65535) × (((scan.phase ≡ 0) × IsPart x false scan.length) ⊎ ((scan.phase ≡ 1) × IsPart x true scan.length))
+    (scan.length ≤ 65535) × (((scan.phase ≡ 0) × IsPart x false scan.length)
+    ⊎ ((scan.phase ≡ 1) × IsPart x true scan.length))
 
 -- so many of the next bytes are spelled by themselves and fit into the body, and none follows an escape byte
 pub record IsPlainRun (scan : Scan) (next : List ℕ) (n : ℕ) : Type 0 where

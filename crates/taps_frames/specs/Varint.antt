@@ -7,13 +7,15 @@ use Rattle.taps_frames.specs.Formats.{Format, headed}
 
 -- a number below 2^30 in its shortest form: the two top bits tell how many bytes there are
 unfoldable pub shortest : ℕ → List ℕ
-shortest n = cond (nat_lt n 64) (n ∷ []) (cond (nat_lt n 16384) (to_be_bytes w16 (0x4000 + n)) (to_be_bytes w32 (0x8000_0000 + n)))
+shortest n = cond (nat_lt n 64) (n ∷ [])
+    (cond (nat_lt n 16384) (to_be_bytes w16 (0x4000 + n)) (to_be_bytes w32 (0x8000_0000 + n)))
 
 -- the least number in its shortest form that begins as the bytes do
 unfoldable pub least_number : List ℕ → ℕ
 least_number x =
     cond (nat_lt (slice_index x 0) 64) (slice_index x 0)
-    (cond (nat_lt (slice_index x 0) 128) (max 64 (from_be_bytes w16 x - 0x4000)) (max 16384 (from_be_bytes w32 x - 0x8000_0000)))
+    (cond (nat_lt (slice_index x 0) 128) (max 64 (from_be_bytes w16 x - 0x4000))
+    (max 16384 (from_be_bytes w32 x - 0x8000_0000)))
 
 -- how many bytes the first one says that there are, of one, two and four
 unfoldable pub told_width : List ℕ → ℕ

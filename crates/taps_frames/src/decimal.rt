@@ -18,7 +18,8 @@ pub(crate) fn digit_step(least: u64, separator: u8, count: u64, value: u64, byte
     requires least { least ≤ 1 }
     requires separator { is_ascii_digit separator ≡ false }
     requires value { value ≤ 65535 }
-    ensures { (name tail x : List ℕ) (i : ℕ) → IsHeadPart (decimal_format name least separator tail) written_number i count value x →
+    ensures { (name tail x : List ℕ) (i : ℕ)
+        → IsHeadPart (decimal_format name least separator tail) written_number i count value x →
         IsGrown (decimal_format name least separator tail) written_number i (x ++ byte ∷ []) result }
 {
     if byte == separator && count > 0 {
@@ -69,9 +70,11 @@ pub(crate) fn write_counted(
     out: &mut Vec<u8>,
 ) -> Result<(), NoMemory>
     requires { length body.now + length tail.now ≤ 4194304 }
-    ensures written { OnOk result (out.new.items ≡ out.old.items ++ ((decimal (length body.now) ++ separator ∷ []) ++ (body.now ++ tail.now))) }
+    ensures written { OnOk result
+        (out.new.items ≡ out.old.items ++ ((decimal (length body.now) ++ separator ∷ []) ++ (body.now ++ tail.now))) }
     ensures unchanged { OnErr result (out.new.items ≡ out.old.items) }
-    ensures room { vec_len out.old + (length (decimal (length body.now)) + 1 + length body.now + length tail.now) ≤ vec_capacity out.old → IsOk result }
+    ensures room { vec_len out.old + (length (decimal (length body.now)) + 1 + length body.now + length tail.now)
+        ≤ vec_capacity out.old → IsOk result }
 {
     let mut buffer = Buffer::new();
     let digits = buffer.format(body.len()).as_bytes();

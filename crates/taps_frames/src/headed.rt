@@ -47,7 +47,8 @@ pub(crate) trait Headed {
 
 /// The scan of no bytes.
 pub(crate) fn start<H: Headed>(framer: &H, _index: u64) -> Scan
-    ensures { Represents (headed (H.format framer.now)) (headed_scan (H.format framer.now) (H.number framer.now)) _index result [] }
+    ensures { Represents (headed (H.format framer.now))
+        (headed_scan (H.format framer.now) (H.number framer.now)) _index result [] }
 {
     framer.vouch_for_heads();
     Scan {
@@ -71,7 +72,8 @@ fn tail_len(tail: Option<u8>) -> u64
 fn step_head<H: Headed>(framer: &H, index: u64, scan: Scan, byte: u8) -> Seen
     requires { (x : List ℕ) × IsHeadPart (H.format framer.now) (H.number framer.now) index scan.length scan.rest x }
     ensures { (x : List ℕ) → IsHeadPart (H.format framer.now) (H.number framer.now) index scan.length scan.rest x →
-        IsSeen (headed (H.format framer.now)) (headed_scan (H.format framer.now) (H.number framer.now)) index (x ++ byte ∷ []) result }
+        IsSeen (headed (H.format framer.now))
+        (headed_scan (H.format framer.now) (H.number framer.now)) index (x ++ byte ∷ []) result }
 {
     framer.vouch_for_heads();
     match framer.head_with(index, scan.length, scan.rest, byte) {
@@ -101,7 +103,8 @@ fn advance_body<H: Headed>(framer: &H, _index: u64, scan: Scan, bytes: &[u8], pl
     requires inside { place ≤ length bytes.now }
     requires some { 0 < scan.rest }
     ensures { (x : List ℕ) → IsBodyPart (H.format framer.now) _index scan.length scan.rest (x ++ take place bytes.now) →
-        IsRun (headed (H.format framer.now)) (headed_scan (H.format framer.now) (H.number framer.now)) _index x bytes.now result }
+        IsRun (headed (H.format framer.now))
+        (headed_scan (H.format framer.now) (H.number framer.now)) _index x bytes.now result }
 {
     framer.vouch_for_heads();
     let left = (bytes.len() - place) as u64;
@@ -127,9 +130,12 @@ fn advance_body<H: Headed>(framer: &H, _index: u64, scan: Scan, bytes: &[u8], pl
 
 /// Looks at the next bytes of a frame: at each of the head, and at no more than the last of the rest.
 pub(crate) fn advance<H: Headed>(framer: &H, index: u64, scan: Scan, bytes: &[u8]) -> Run
-    requires { (x : List ℕ) × Represents (headed (H.format framer.now)) (headed_scan (H.format framer.now) (H.number framer.now)) index scan x }
-    ensures { (x : List ℕ) → Represents (headed (H.format framer.now)) (headed_scan (H.format framer.now) (H.number framer.now)) index scan x →
-        IsRun (headed (H.format framer.now)) (headed_scan (H.format framer.now) (H.number framer.now)) index x bytes.now result }
+    requires { (x : List ℕ) × Represents (headed (H.format framer.now))
+        (headed_scan (H.format framer.now) (H.number framer.now)) index scan x }
+    ensures { (x : List ℕ) → Represents (headed (H.format framer.now))
+        (headed_scan (H.format framer.now) (H.number framer.now)) index scan x →
+        IsRun (headed (H.format framer.now))
+        (headed_scan (H.format framer.now) (H.number framer.now)) index x bytes.now result }
 {
     let mut reached = scan;
     for place in 0..bytes.len() {
@@ -147,9 +153,12 @@ pub(crate) fn advance<H: Headed>(framer: &H, index: u64, scan: Scan, bytes: &[u8
 
 /// Looks at the next byte of a frame.
 pub(crate) fn step<H: Headed>(framer: &H, index: u64, scan: Scan, byte: u8) -> Seen
-    requires { (x : List ℕ) × Represents (headed (H.format framer.now)) (headed_scan (H.format framer.now) (H.number framer.now)) index scan x }
-    ensures { (x : List ℕ) → Represents (headed (H.format framer.now)) (headed_scan (H.format framer.now) (H.number framer.now)) index scan x →
-        IsSeen (headed (H.format framer.now)) (headed_scan (H.format framer.now) (H.number framer.now)) index (x ++ byte ∷ []) result }
+    requires { (x : List ℕ) × Represents (headed (H.format framer.now))
+        (headed_scan (H.format framer.now) (H.number framer.now)) index scan x }
+    ensures { (x : List ℕ) → Represents (headed (H.format framer.now))
+        (headed_scan (H.format framer.now) (H.number framer.now)) index scan x →
+        IsSeen (headed (H.format framer.now))
+        (headed_scan (H.format framer.now) (H.number framer.now)) index (x ++ byte ∷ []) result }
 {
     seen_of(advance(framer, index, scan, &[byte]))
 }
@@ -170,7 +179,8 @@ pub(crate) fn unwrap<H: Headed>(
     out: &mut Vec<u8>,
 ) -> Result<(), NoMemory>
     requires { IsWholeFrame (headed (H.format framer.now)) index frame.now }
-    ensures given { OnOk result (out.new.items ≡ out.old.items ++ (headed (H.format framer.now)).front index frame.now) }
+    ensures given { OnOk result
+        (out.new.items ≡ out.old.items ++ (headed (H.format framer.now)).front index frame.now) }
     ensures unchanged { OnErr result (out.new.items ≡ out.old.items) }
     ensures room { vec_len out.old + length frame.now ≤ vec_capacity out.old → IsOk result }
 {

@@ -24,7 +24,8 @@ pub(crate) fn write_parts(
     requires { length head.now + length body.now + length tail.now ≤ 4194304 }
     ensures written { OnOk result (out.new.items ≡ out.old.items ++ (head.now ++ (body.now ++ tail.now))) }
     ensures unchanged { OnErr result (out.new.items ≡ out.old.items) }
-    ensures room { vec_len out.old + (length head.now + length body.now + length tail.now) ≤ vec_capacity out.old → IsOk result }
+    ensures room { vec_len out.old + (length head.now + length body.now + length tail.now) ≤ vec_capacity out.old
+        → IsOk result }
 {
     out.reserve(head.len() + body.len() + tail.len())?;
     put(head, out);

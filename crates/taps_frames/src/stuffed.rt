@@ -106,7 +106,8 @@ fn step_escaped(_index: u64, length: u64, byte: u8) -> Seen
 /// Looks at the next bytes of a frame, by runs of bytes that are spelled by themselves.
 fn advance(_index: u64, scan: Scan, bytes: &[u8]) -> Run
     requires { (x : List ℕ) × Represents stuffed stuffed_scan _index scan x }
-    ensures { (x : List ℕ) → Represents stuffed stuffed_scan _index scan x → IsRun stuffed stuffed_scan _index x bytes.now result }
+    ensures { (x : List ℕ) → Represents stuffed stuffed_scan _index scan x
+        → IsRun stuffed stuffed_scan _index x bytes.now result }
 {
     let mut reached = scan;
     let mut at = 0;

@@ -59,4 +59,5 @@ hosts_after path (member key d ms) before = host_at path key d before >>= λ aft
 
 -- at most 64 hosts, which are read in byte order of their names
 unfoldable pub hosts_at : List ℕ → Members → Result (List (List ℕ × List Ip)) PreError
-hosts_at path ms = if nat_le (count_members ms) 64 then hosts_after path (in_byte_order ms) [] else Err (TooMany path (count_members ms))
+hosts_at path ms = if nat_le (count_members ms) 64 then hosts_after path (in_byte_order ms) []
+    else Err (TooMany path (count_members ms))

@@ -74,7 +74,11 @@ selections_at profile = keys_of (selection_keys profile)
 
 -- what is asked where the file has no table `selection`
 abbrev pub unselected : Option Profile → Selections
-unselected profile = record { initiating = profiled profile Initiate; listening = profiled profile Listen; meeting = profiled profile Rendezvous }
+unselected profile = record {
+  initiating = profiled profile Initiate;
+  listening = profiled profile Listen;
+  meeting = profiled profile Rendezvous;
+}
 
 -- whether messages may be sent again under this profile
 abbrev pub is_replayable : Option Profile → Bool

@@ -90,12 +90,14 @@ set_if_there sets set path name (Some value) = taken_at (key_text path name) (se
 
 -- the set with this property, if the table has it
 unfoldable pub property_at : {Set : Type 0} → Setter Set → Key → List ℕ → Members → Set → Result Set PreError
-property_at sets key path ms set = value_at key.name (property_of key.kind) path ms >>= λ value. set_if_there sets set path key.name value
+property_at sets key path ms set =
+    value_at key.name (property_of key.kind) path ms >>= λ value. set_if_there sets set path key.name value
 
 -- the set with each of these properties that the table has, in their order
 unfoldable pub properties_at : {Set : Type 0} → Setter Set → List Key → List ℕ → Members → Set → Result Set PreError
 properties_at sets [] path ms set = Ok set
-properties_at sets (key ∷ keys) path ms set = property_at sets key path ms set >>= λ set. properties_at sets keys path ms set
+properties_at sets (key ∷ keys) path ms set =
+    property_at sets key path ms set >>= λ set. properties_at sets keys path ms set
 
 -- the keys of these properties, which are set over what stood before
 abbrev pub properties : {Set : Type 0} → Setter Set → List Key → Set → Keys Set

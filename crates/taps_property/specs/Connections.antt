@@ -12,18 +12,22 @@ use Rattle.taps_property.specs.declared.scheduler.Scheduler.TheVariants.{Weighte
 -- those that can be set
 abbrev pub connection_settings : List (Row ConnectionProps)
 connection_settings =
-    row (codes "recvChecksumLen") (Limit FullCoverage) (λ c. c.recv_checksum_len) (λ v c. record c { recv_checksum_len = v })
+    row (codes "recvChecksumLen") (Limit FullCoverage)
+    (λ c. c.recv_checksum_len) (λ v c. record c { recv_checksum_len = v })
     ∷ row (codes "connPriority") Number (λ c. c.conn_priority) (λ v c. record c { conn_priority = v })
     ∷ row (codes "connTimeout") (Limit Disabled) (λ c. c.conn_timeout) (λ v c. record c { conn_timeout = v })
-    ∷ row (codes "keepAliveTimeout") (Limit Disabled) (λ c. c.keep_alive_timeout) (λ v c. record c { keep_alive_timeout = v })
+    ∷ row (codes "keepAliveTimeout") (Limit Disabled)
+    (λ c. c.keep_alive_timeout) (λ v c. record c { keep_alive_timeout = v })
     ∷ row (codes "connScheduler") Scheduler (λ c. c.conn_scheduler) (λ v c. record c { conn_scheduler = v })
-    ∷ row (codes "connCapacityProfile") Capacity (λ c. c.conn_capacity_profile) (λ v c. record c { conn_capacity_profile = v })
+    ∷ row (codes "connCapacityProfile") Capacity (λ c. c.conn_capacity_profile)
+    (λ v c. record c { conn_capacity_profile = v })
     ∷ row (codes "multipathPolicy") Policy (λ c. c.multipath_policy) (λ v c. record c { multipath_policy = v })
     ∷ row (codes "minSendRate") (Limit Unlimited) (λ c. c.min_send_rate) (λ v c. record c { min_send_rate = v })
     ∷ row (codes "minRecvRate") (Limit Unlimited) (λ c. c.min_recv_rate) (λ v c. record c { min_recv_rate = v })
     ∷ row (codes "maxSendRate") (Limit Unlimited) (λ c. c.max_send_rate) (λ v c. record c { max_send_rate = v })
     ∷ row (codes "maxRecvRate") (Limit Unlimited) (λ c. c.max_recv_rate) (λ v c. record c { max_recv_rate = v })
-    ∷ row (codes "groupConnLimit") (Limit Unlimited) (λ c. c.group_conn_limit) (λ v c. record c { group_conn_limit = v })
+    ∷ row (codes "groupConnLimit") (Limit Unlimited)
+    (λ c. c.group_conn_limit) (λ v c. record c { group_conn_limit = v })
     ∷ row (codes "isolateSession") Flag (λ c. c.isolate_session) (λ v c. record c { isolate_session = v })
     ∷ []
 

@@ -14,9 +14,11 @@ message_table =
     ∷ row (codes "msgOrdered") Flag (λ m. m.msg_ordered) (λ v m. record m { msg_ordered = v })
     ∷ row (codes "safelyReplayable") Flag (λ m. m.safely_replayable) (λ v m. record m { safely_replayable = v })
     ∷ row (codes "final") Flag (λ m. m.is_final) (λ v m. record m { is_final = v })
-    ∷ row (codes "msgChecksumLen") (Limit FullCoverage) (λ m. m.msg_checksum_len) (λ v m. record m { msg_checksum_len = v })
+    ∷ row (codes "msgChecksumLen") (Limit FullCoverage)
+    (λ m. m.msg_checksum_len) (λ v m. record m { msg_checksum_len = v })
     ∷ row (codes "msgReliable") Flag (λ m. m.msg_reliable) (λ v m. record m { msg_reliable = v })
-    ∷ row (codes "msgCapacityProfile") Capacity (λ m. m.msg_capacity_profile) (λ v m. record m { msg_capacity_profile = v })
+    ∷ row (codes "msgCapacityProfile") Capacity (λ m. m.msg_capacity_profile)
+    (λ v m. record m { msg_capacity_profile = v })
     ∷ row (codes "noFragmentation") Flag (λ m. m.no_fragmentation) (λ v m. record m { no_fragmentation = v })
     ∷ row (codes "noSegmentation") Flag (λ m. m.no_segmentation) (λ v m. record m { no_segmentation = v })
     ∷ []

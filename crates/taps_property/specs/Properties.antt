@@ -35,7 +35,8 @@ settings rows = map (λ r. r.setting) rows
 -- what a set tells of the property of this name
 abbrev pub value_in : {Set : Type 0} → List (Row Set) → Set → List ℕ → Result PropValue PropError
 value_in [] set name = Err UnknownProperty
-value_in (r ∷ rs) set name = if bytes_eq name r.setting.name then Ok (told r.setting.kind (r.value set)) else value_in rs set name
+value_in (r ∷ rs) set name =
+    if bytes_eq name r.setting.name then Ok (told r.setting.kind (r.value set)) else value_in rs set name
 
 -- the set with a value that is taken, or why it is not
 abbrev pub with_taken : {A Set : Type 0} → (A → Set → Set) → Set → Result A PropError → Result Set PropError
@@ -45,7 +46,8 @@ with_taken with set (Err e) = Err e
 -- the set once the property of this name is set, or the refusal
 abbrev pub set_in : {Set : Type 0} → List (Setting Set) → Set → List ℕ → PropValue → Result Set PropError
 set_in [] set name value = Err UnknownProperty
-set_in (s ∷ ss) set name value = if bytes_eq name s.name then with_taken s.with set (taken s.kind value) else set_in ss set name value
+set_in (s ∷ ss) set name value =
+    if bytes_eq name s.name then with_taken s.with set (taken s.kind value) else set_in ss set name value
 
 -- the set became what setting gives; under a refusal it stayed as it was
 abbrev pub Becomes : {Set : Type 0} → Result (Unit {0}) PropError → Set → Set → Result Set PropError → Type 0
@@ -59,7 +61,8 @@ bare value = value
 
 -- all properties of other names tell what they told
 abbrev pub KeepsOthers : {Set : Type 0} → List (Row Set) → Set → Set → List ℕ → Type 0
-KeepsOthers rows old new name = (other : List ℕ) → bytes_eq other name ≡ false → value_in rows new other ≡ value_in rows old other
+KeepsOthers rows old new name =
+    (other : List ℕ) → bytes_eq other name ≡ false → value_in rows new other ≡ value_in rows old other
 
 -- the name and the kind of a property
 pub record Key : Type 0 where

@@ -102,11 +102,14 @@ default_selection role = record {
 -- what a profile asks of the stack
 abbrev pub profile_preferences : Profile → List (StackProperty × Preference)
 profile_preferences ReliableInorderStream =
-    (Reliability, Require) ∷ (PreserveOrder, Require) ∷ (CongestionControl, Require) ∷ (PreserveMsgBoundaries, NoPreference) ∷ []
+    (Reliability, Require) ∷ (PreserveOrder, Require) ∷
+    (CongestionControl, Require) ∷ (PreserveMsgBoundaries, NoPreference) ∷ []
 profile_preferences ReliableMessage =
-    (Reliability, Require) ∷ (PreserveOrder, Require) ∷ (CongestionControl, Require) ∷ (PreserveMsgBoundaries, Require) ∷ []
+    (Reliability, Require) ∷ (PreserveOrder, Require) ∷
+    (CongestionControl, Require) ∷ (PreserveMsgBoundaries, Require) ∷ []
 profile_preferences UnreliableDatagram =
-    (Reliability, Avoid) ∷ (PreserveOrder, Avoid) ∷ (CongestionControl, NoPreference) ∷ (PreserveMsgBoundaries, Require) ∷ []
+    (Reliability, Avoid) ∷ (PreserveOrder, Avoid) ∷
+    (CongestionControl, NoPreference) ∷ (PreserveMsgBoundaries, Require) ∷ []
 
 -- the selection with each of these preferences
 abbrev pub with_preferences : List (StackProperty × Preference) → Selection → Selection

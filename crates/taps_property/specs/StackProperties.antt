@@ -5,7 +5,9 @@ use Rattle.taps_property.specs.declared.stack_property.StackProperty.TheVariants
 
 -- all of them, in order
 abbrev pub stack_properties : List StackProperty
-stack_properties = Reliability ∷ PreserveMsgBoundaries ∷ PerMsgReliability ∷ PreserveOrder ∷ ZeroRttMsg ∷ Multistreaming ∷ FullChecksumSend ∷ FullChecksumRecv ∷ CongestionControl ∷ KeepAlive ∷ SoftErrorNotify ∷ ActiveReadBeforeSend ∷ []
+stack_properties = Reliability ∷ PreserveMsgBoundaries ∷ PerMsgReliability ∷ PreserveOrder ∷ ZeroRttMsg ∷
+    Multistreaming ∷ FullChecksumSend ∷ FullChecksumRecv ∷ CongestionControl ∷
+    KeepAlive ∷ SoftErrorNotify ∷ ActiveReadBeforeSend ∷ []
 
 -- a property's place in it
 abbrev pub stack_place : StackProperty → ℕ

@@ -16,7 +16,8 @@ use Rattle.taps_stack.specs.StackTable.{offers, carries, is_stream}
 
 -- the stack meets each of the preferences about stacks
 abbrev pub meets_all : Selection → Stack → Bool
-meets_all selection stack = list_all (λ (preference, property). is_met preference (offers stack property)) (zip selection.stack stack_properties)
+meets_all selection stack = list_all (λ (preference, property). is_met preference (offers stack property))
+    (zip selection.stack stack_properties)
 
 -- a role that awaits connections takes streams alone (local)
 abbrev pub suits : Role → Stack → Bool
@@ -30,7 +31,8 @@ stack_survives selection role stack = meets_all selection stack && suits role st
 
 -- each entry is met by whether the interface is the path's (that every entry has to be met is local)
 abbrev pub meets_interfaces : Selection → Path → Bool
-meets_interfaces selection path = list_all (λ entry. is_met entry.preference (offers_interface path entry.name)) selection.interface.items
+meets_interfaces selection path =
+    list_all (λ entry. is_met entry.preference (offers_interface path entry.name)) selection.interface.items
 
 -- each entry is met by whether the provisioning domain is the path's
 abbrev pub meets_pvds : Selection → Path → Bool
@@ -38,7 +40,8 @@ meets_pvds selection path = list_all (λ entry. is_met entry.preference (offers_
 
 -- the path meets each of the preferences about paths
 abbrev pub meets_path : Selection → Path → Bool
-meets_path selection path = meets_interfaces selection path && meets_pvds selection path && is_met selection.temporary path.temporary
+meets_path selection path =
+    meets_interfaces selection path && meets_pvds selection path && is_met selection.temporary path.temporary
 
 -- the name, if there is one, is that of the path's interface
 abbrev pub is_interface_of : Path → Option (List ℕ) → Bool

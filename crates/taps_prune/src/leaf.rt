@@ -18,7 +18,8 @@ pub fn leaf_survives(
     address: &Address,
 ) -> bool
     requires { path < length pre.now.paths.items }
-    ensures { result ≡ survival.survives (selection_for pre.now role) role pre.now.locals.items (path_of pre.now path) stack address.now }
+    ensures { result ≡ survival.survives (selection_for pre.now role) role pre.now.locals.items
+        (path_of pre.now path) stack address.now }
 {
     path_survives(pre, role, path)
         && stack_survives(pre, role, stack)

@@ -20,7 +20,8 @@ use Rattle.taps_racer.specs.Kept.{Kept, standing_of}
 abbrev pub HasAnswer : Kept → RaceAnswer → Type 0
 HasAnswer kept answer = over kept.rules (standing_of kept) ≡ Some answer
 
--- a leaf of the list won: its attempt gave the socket, which is live and completed, leads to the leaf's target, and may send and receive
+-- a leaf of the list won: its attempt gave the socket, which is live and completed, leads to the leaf's target, and may
+-- send and receive
 pub record IsWinner (targets : List Target) (race trace : List Item) (leaf socket : ℕ) : Type 0 where
   pub listed : leaf < length targets
   pub attempt : slice_get (tries race) leaf ≡ Some (Some socket)
@@ -35,8 +36,12 @@ abbrev pub NamesWinner : List Target → List Item → List Item → RaceAnswer 
 NamesWinner targets race trace (Ready leaf socket at) = IsWinner targets race trace leaf socket
 NamesWinner targets race trace _ = Unit {0}
 
--- the items that came to the sockets' trace are a lawful race with this answer; it names no socket of the trace before; its own sockets are live where they are open in it, and have no traffic; none is pending, and none was closed twice; no traffic of any socket changed, and no timed call was made; and the count of faults did not fall, and rose for a fault
-pub record IsCarriedOut (rules : Rules) (first : ℕ) (targets : List Target) (before after : Net) (race : List Item) (answer : RaceAnswer) : Type 0 where
+-- the items that came to the sockets' trace are a lawful race with this answer; it names no socket of the trace before;
+-- its own sockets are live where they are open in it, and have no traffic; none is pending, and none was closed twice;
+-- no traffic of any socket changed, and no timed call was made; and the count of faults did not fall, and rose for a
+-- fault
+pub record IsCarriedOut (rules : Rules) (first : ℕ) (targets : List Target)
+    (before after : Net) (race : List Item) (answer : RaceAnswer) : Type 0 where
   pub items : after.trace ≡ race ++ before.trace
   pub lawful : IsLawfulRace rules first targets race answer
   pub few : length race ≤ 4 * length targets + 1
@@ -55,4 +60,5 @@ pub record IsCarriedOut (rules : Rules) (first : ℕ) (targets : List Target) (b
 -- the racer has the answer of a race that was carried out
 abbrev pub HasCarriedOut : Rules → ℕ → List Target → Net → Net → Kept → Type 0
 HasCarriedOut rules first targets before after kept =
-    (race : List Item) × (answer : RaceAnswer) × HasAnswer kept answer × IsCarriedOut rules first targets before after race answer
+    (race : List Item) × (answer : RaceAnswer) × HasAnswer kept answer
+    × IsCarriedOut rules first targets before after race answer

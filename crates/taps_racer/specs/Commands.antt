@@ -26,7 +26,8 @@ ending race answer = option_map_or (λ socket. Close socket) (reduce min (losers
 -- what is to be done in one that goes on: a broken socket is closed, then a leaf that is due is started
 abbrev pub going_on : Rules → Standing → Command
 going_on rules race =
-    option_map_or (λ socket. Close socket) (reduce min race.broken) (if is_due rules race then Start race.attempts else Wait (wait_end rules race))
+    option_map_or (λ socket. Close socket) (reduce min race.broken) (if is_due rules race then Start race.attempts
+    else Wait (wait_end rules race))
 
 -- the command that a race comes to which stands so
 abbrev pub command : Rules → Standing → Command

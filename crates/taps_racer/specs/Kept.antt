@@ -10,7 +10,8 @@ use Rattle.taps_socket.specs.Rules.{Rules}
 use Rattle.taps_racer.specs.declared.attempt.Attempt.{Attempt}
 use Rattle.taps_racer.specs.Attempts.{socket_of, open_socket, pending_socket, broken_socket}
 
--- its rules, the moments of its beginning, of its newest event and of its newest attempt, whether a wait was faulted, the answer of the first completion, and its attempts, the first of them first
+-- its rules, the moments of its beginning, of its newest event and of its newest attempt, whether a wait was faulted,
+-- the answer of the first completion, and its attempts, the first of them first
 pub record Kept : Type 0 where
   pub rules : Rules
   pub begun : ℕ
@@ -38,7 +39,8 @@ standing_of kept =
 
 -- before its race nothing is attempted
 abbrev pub fresh : Rules → Kept
-fresh rules = record { rules = rules; begun = 0; last = 0; last_attempt = 0; faulted = false; ready = None; attempts = [] }
+fresh rules =
+    record { rules = rules; begun = 0; last = 0; last_attempt = 0; faulted = false; ready = None; attempts = [] }
 
 -- it is such a one
 abbrev pub IsFresh : Kept → Type 0

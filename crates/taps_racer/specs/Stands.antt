@@ -18,11 +18,13 @@ use Rattle.taps_racer.specs.Kept.{Kept}
 
 -- what became of a socket, by whether it was closed, broke or completed
 abbrev pub state_by : Bool → Bool → Bool → State
-state_by closed broke completed = if closed then state.Closed else if broke then state.Broken else if completed then state.Completed else state.Pending
+state_by closed broke completed = if closed then state.Closed
+    else if broke then state.Broken else if completed then state.Completed else state.Pending
 
 -- what the trace tells of a socket
 abbrev pub state_of : List Item → ℕ → State
-state_of trace s = state_by (has (sockets.closed trace) s) (has (sockets.broke trace) s) (has (sockets.completed trace) s)
+state_of trace s =
+    state_by (has (sockets.closed trace) s) (has (sockets.broke trace) s) (has (sockets.completed trace) s)
 
 -- what the trace tells of an attempt
 abbrev pub attempt_in : List Item → Option ℕ → Attempt
@@ -36,14 +38,16 @@ EndsRightly race until at (Completed socket) = has race.pending socket ≡ true
 EndsRightly race until at (Broke socket cause) = has race.pending socket ≡ true
 EndsRightly race until at Faulted = Unit {0}
 
--- an attempt has a socket number that the race has not had, a wait ends rightly, and a close names a socket that was open
+-- an attempt has a socket number that the race has not had, a wait ends rightly, and a close names a socket that was
+-- open
 abbrev pub IsToldRightly : Item → Standing → Type 0
 IsToldRightly (item.Started leaf target socket at) race = has race.started socket ≡ false
 IsToldRightly (item.Waited until at how) race = EndsRightly race until at how
 IsToldRightly (item.Closed socket) race = has race.still_open socket ≡ true
 IsToldRightly _ race = Unit {0}
 
--- what the racer keeps is what the trace tells, whose attempts carry the leaves from first on, and which is told rightly
+-- what the racer keeps is what the trace tells, whose attempts carry the leaves from first on, and which is told
+-- rightly
 pub record StandsFor (kept : Kept) (first : ℕ) (trace : List Item) : Type 0 where
   pub begun : kept.begun ≡ traces.begun trace
   pub last : kept.last ≡ traces.last_moment trace

@@ -23,14 +23,16 @@ after_wait kept at (Completed socket) =
       ready = option_or kept.ready (Some (Ready (place_of socket (map socket_of kept.attempts)) socket at));
       attempts = map (marked socket state.Completed) kept.attempts;
     }
-after_wait kept at (Broke socket cause) = record kept { last = at; attempts = map (marked socket state.Broken) kept.attempts }
+after_wait kept at (Broke socket cause) =
+    record kept { last = at; attempts = map (marked socket state.Broken) kept.attempts }
 after_wait kept at Faulted = record kept { last = at; faulted = true }
 
 -- what is kept after a used event
 abbrev pub after : Kept → Told → Kept
 after kept (Started leaf socket at) =
     record kept { last = at; last_attempt = at; attempts = kept.attempts ++ attempt.Started socket state.Pending ∷ [] }
-after kept (Refused leaf cause at) = record kept { last = at; last_attempt = at; attempts = kept.attempts ++ attempt.Refused ∷ [] }
+after kept (Refused leaf cause at) =
+    record kept { last = at; last_attempt = at; attempts = kept.attempts ++ attempt.Refused ∷ [] }
 after kept (Waited until at how) = after_wait kept at how
 after kept (Closed socket) = record kept { attempts = map (marked socket state.Closed) kept.attempts }
 
@@ -50,4 +52,5 @@ heard_all kept (event ∷ events) = heard_all (heard kept event) events
 -- those of them that it uses
 abbrev pub used_of : Kept → List Told → List Told
 used_of kept [] = []
-used_of kept (event ∷ events) = if is_used kept event then event ∷ used_of (heard kept event) events else used_of (heard kept event) events
+used_of kept (event ∷ events) =
+    if is_used kept event then event ∷ used_of (heard kept event) events else used_of (heard kept event) events

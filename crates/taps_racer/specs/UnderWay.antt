@@ -16,8 +16,10 @@ use Rattle.taps_racer.specs.declared.event.Told.TheVariants as told
 use Rattle.taps_racer.specs.Kept.{Kept}
 use Rattle.taps_racer.specs.Stands.{IsRun}
 
--- what came to the sockets' trace is a race for which the racer stands, over these targets, on sockets that were not in the trace before and had no traffic; nothing else changed; and there is room for the rest of its items
-pub record IsUnderWay (kept : Kept) (rules : Rules) (first : ℕ) (targets : List Target) (before now : Net) (race : List Item) : Type 0 where
+-- what came to the sockets' trace is a race for which the racer stands, over these targets, on sockets that were not in
+-- the trace before and had no traffic; nothing else changed; and there is room for the rest of its items
+pub record IsUnderWay (kept : Kept) (rules : Rules) (first : ℕ)
+    (targets : List Target) (before now : Net) (race : List Item) : Type 0 where
   pub items : now.trace ≡ race ++ before.trace
   pub run : IsRun kept first race
   pub targets_in_order : Each (HasTarget targets) race
@@ -40,7 +42,8 @@ UnderWay kept rules first targets before now = (race : List Item) × IsUnderWay 
 -- where a race was under way, it goes on
 abbrev pub KeepsUnderWay : Kept → Kept → Net → Net → Type 0
 KeepsUnderWay kept after now later =
-    (rules : Rules) (first : ℕ) (targets : List Target) (before : Net) → UnderWay kept rules first targets before now → UnderWay after rules first targets before later
+    (rules : Rules) (first : ℕ) (targets : List Target) (before : Net)
+    → UnderWay kept rules first targets before now → UnderWay after rules first targets before later
 
 -- the event of a start
 abbrev pub told_of : ℕ → StartAnswer → Told

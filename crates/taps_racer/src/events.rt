@@ -38,7 +38,8 @@ fn tell_each(
 fn tell_one(racer: &mut Racer<Racing>, event: Told, used: &mut List<Told>)
     requires { 1 ≤ used.old.spare }
     ensures racer { racer.new ≡ heard racer.old event }
-    ensures items { used.new.items ≡ (if is_used racer.old event then used.old.items ++ event ∷ [] else used.old.items) }
+    ensures items { used.new.items ≡
+        (if is_used racer.old event then used.old.items ++ event ∷ [] else used.old.items) }
     ensures room { used.old.spare - 1 ≤ used.new.spare }
 {
     if racer.tell(event) {

@@ -233,7 +233,11 @@ impl Race {
     fn attempt(&mut self, attempt: Attempt, at: u64)
         requires room { length self.old.attempts < length self.old.rules.gaps }
         requires moment { at < 2 ^ 63 }
-        ensures { self.new ≡ record self.old { last = at; last_attempt = at; attempts = self.old.attempts ++ attempt ∷ [] } }
+        ensures { self.new ≡ record self.old {
+          last = at;
+          last_attempt = at;
+          attempts = self.old.attempts ++ attempt ∷ [];
+        } }
     {
         self.last = at;
         self.last_attempt = at;
@@ -260,7 +264,10 @@ impl Race {
     }
 
     fn win(&mut self, socket: u32, at: u64)
-        ensures { self.new ≡ record self.old { ready = option_or self.old.ready (Some (Ready (place_of socket (map socket_of self.old.attempts)) socket at)) } }
+        ensures { self.new ≡ record self.old {
+          ready = option_or self.old.ready
+              (Some (Ready (place_of socket (map socket_of self.old.attempts)) socket at));
+        } }
     {
         if self.ready.is_none() {
             let leaf = place_in(&self.attempts, socket) as u32;

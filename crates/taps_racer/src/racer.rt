@@ -86,8 +86,10 @@ impl Racer<Racing> {
     pub fn next(&self) -> Command
         ensures command { result ≡ command_of self.now }
         ensures leaf { (n : ℕ) → result ≡ Start n → n < length self.now.rules.gaps }
-        ensures turn { (first : ℕ) (trace : List Item) → IsRun self.now first trace → ComesNext self.now.rules (standing trace) result }
-        ensures only { (first : ℕ) (trace : List Item) → IsRun self.now first trace → (other : Command) → ComesNext self.now.rules (standing trace) other → other ≡ result }
+        ensures turn { (first : ℕ) (trace : List Item) → IsRun self.now first trace
+            → ComesNext self.now.rules (standing trace) result }
+        ensures only { (first : ℕ) (trace : List Item) → IsRun self.now first trace
+            → (other : Command) → ComesNext self.now.rules (standing trace) other → other ≡ result }
     {
         self.race.command()
     }
@@ -102,10 +104,14 @@ impl Racer<Racing> {
 
     /// Takes an event that answers what `next` gives, and ignores every other.
     pub fn told(&mut self, event: Told) -> Taken
-        ensures answer { (first : ℕ) (trace : List Item) → IsRun self.old first trace → (command : Command) → ComesNext self.old.rules (standing trace) command → result ≡ (if answers (standing trace) command event then Used else Ignored) }
+        ensures answer { (first : ℕ) (trace : List Item) → IsRun self.old first trace → (command : Command)
+            → ComesNext self.old.rules (standing trace) command
+            → result ≡ (if answers (standing trace) command event then Used else Ignored) }
         ensures ignored { result ≡ Ignored → self.new ≡ self.old }
-        ensures stands { result ≡ Used → (first : ℕ) (trace : List Item) (target : ℕ → Target) → StandsFor self.old first trace → StandsFor self.new first (item_of first target event ∷ trace) }
-        ensures run { result ≡ Used → (first : ℕ) (trace : List Item) (target : ℕ → Target) → IsRun self.old first trace → IsRun self.new first (item_of first target event ∷ trace) }
+        ensures stands { result ≡ Used → (first : ℕ) (trace : List Item) (target : ℕ → Target)
+            → StandsFor self.old first trace → StandsFor self.new first (item_of first target event ∷ trace) }
+        ensures run { result ≡ Used → (first : ℕ) (trace : List Item) (target : ℕ → Target)
+            → IsRun self.old first trace → IsRun self.new first (item_of first target event ∷ trace) }
         ensures rules { self.new.rules ≡ self.old.rules }
     {
         if self.tell(event) {
@@ -132,7 +138,8 @@ impl Racer<Ended> {
     /// The race's answer.
     pub fn answer(&self) -> RaceAnswer
         ensures answer { HasAnswer self.now result }
-        ensures over { (first : ℕ) (trace : List Item) → IsRun self.now first trace → IsOver self.now.rules (standing trace) result }
+        ensures over { (first : ℕ) (trace : List Item) → IsRun self.now first trace
+            → IsOver self.now.rules (standing trace) result }
     {
         match self.race.over() {
             Some(answer) => answer,

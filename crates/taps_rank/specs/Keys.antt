@@ -11,11 +11,13 @@ use Rattle.taps_stack.specs.StackTable.{offers}
 
 -- how many preferences about interfaces are softly unmet
 abbrev pub unmet_interfaces : Selection → Path → ℕ
-unmet_interfaces selection path = count_by (λ entry. is_soft_unmet entry.preference (offers_interface path entry.name)) selection.interface.items
+unmet_interfaces selection path =
+    count_by (λ entry. is_soft_unmet entry.preference (offers_interface path entry.name)) selection.interface.items
 
 -- how many preferences about provisioning domains are softly unmet
 abbrev pub unmet_pvds : Selection → Path → ℕ
-unmet_pvds selection path = count_by (λ entry. is_soft_unmet entry.preference (offers_pvd path entry.name)) selection.pvd.items
+unmet_pvds selection path =
+    count_by (λ entry. is_soft_unmet entry.preference (offers_pvd path entry.name)) selection.pvd.items
 
 -- 1 for what holds, else 0
 abbrev pub one_if : Bool → ℕ
@@ -24,8 +26,11 @@ one_if false = 0
 
 -- how many preferences about paths are softly unmet
 abbrev pub path_key : Selection → Path → ℕ
-path_key selection path = unmet_interfaces selection path + unmet_pvds selection path + one_if (is_soft_unmet selection.temporary path.temporary)
+path_key selection path =
+    unmet_interfaces selection path + unmet_pvds selection path
+    + one_if (is_soft_unmet selection.temporary path.temporary)
 
 -- how many preferences about stacks are softly unmet
 abbrev pub stack_key : Selection → Stack → ℕ
-stack_key selection stack = count_by (λ (preference, property). is_soft_unmet preference (offers stack property)) (zip selection.stack stack_properties)
+stack_key selection stack = count_by (λ (preference, property). is_soft_unmet preference (offers stack property))
+    (zip selection.stack stack_properties)

@@ -28,4 +28,5 @@ turn_key addresses address = (turn_of addresses address).round ∷ (turn_of addr
 
 -- the places of addresses of these families, by their turns
 abbrev pub places_in_order : List Family → List ℕ
-places_in_order families = map (λ address. address.0) (ranked (turn_key (enumerate_from 0 families)) (enumerate_from 0 families))
+places_in_order families =
+    map (λ address. address.0) (ranked (turn_key (enumerate_from 0 families)) (enumerate_from 0 families))

@@ -13,7 +13,8 @@ placed_family (place, address) = (place, family_of address)
 
 -- of addresses by place and family, how many come before this place and are of the family
 abbrev pub round_of : List (ℕ × Family) → ℕ → Family → ℕ
-round_of addresses place family = count_by (λ (earlier, other). nat_lt earlier place && is_same_family other family) addresses
+round_of addresses place family =
+    count_by (λ (earlier, other). nat_lt earlier place && is_same_family other family) addresses
 
 -- 0 for the family of the first of them, else 1
 abbrev pub side_of : List (ℕ × Family) → Family → ℕ
@@ -35,7 +36,10 @@ first_of (first ∷ others) = Some first
 
 -- what is left of the families so far
 abbrev pub turns_after : List Family → Turns
-turns_after families = record { rounds = count_of Inet4 families ∷ count_of Inet6 families ∷ count_of Unix families ∷ []; first = first_of families }
+turns_after families = record {
+  rounds = count_of Inet4 families ∷ count_of Inet6 families ∷ count_of Unix families ∷ [];
+  first = first_of families;
+}
 
 -- a family's place among the numbers of rounds
 abbrev pub family_place : Family → ℕ
@@ -54,7 +58,10 @@ first_or (Some first) family = first
 
 -- the turn of the next one
 abbrev pub turn_in : Turns → Family → Turn
-turn_in turns family = record { round = round_in turns family; side = if is_same_family (first_or turns.first family) family then 0 else 1 }
+turn_in turns family = record {
+  round = round_in turns family;
+  side = if is_same_family (first_or turns.first family) family then 0 else 1;
+}
 
 -- what is left once it has had its turn
 abbrev pub turns_with : Family → Turns → Turns

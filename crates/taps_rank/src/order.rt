@@ -26,7 +26,8 @@ fn places(alloc: Global, keys: &[[u64; 3]]) -> Result<Vec<u64>, NoMemory>
 
 // Round, side and place of each.
 fn turn_keys(alloc: Global, families: &[Family]) -> Result<Vec<[u64; 3]>, NoMemory>
-    ensures { IfOk result (λ keys. keys.items ≡ map (turn_key (enumerate_from 0 families.now)) (enumerate_from 0 families.now)) }
+    ensures { IfOk result (λ keys.
+        keys.items ≡ map (turn_key (enumerate_from 0 families.now)) (enumerate_from 0 families.now)) }
 {
     let mut keys = Vec::with_capacity(alloc, families.len())?;
     let mut turns = Turns::new();

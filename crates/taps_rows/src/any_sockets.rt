@@ -17,7 +17,8 @@ pub fn winner_of<N: Sockets>(
     requires leaves { length racer.rules.gaps ≡ length targets.now }
     requires numbers { length targets.now < 2 ^ 32 }
     requires idle { pending_sockets (N.net net.old).trace ≡ [] }
-    ensures won { IfOk result (λ winner. IfSome winner (λ w. HasWon targets.now (N.net net.old) (N.net net.new) w.0 w.1)) }
+    ensures won { IfOk result (λ winner.
+        IfSome winner (λ w. HasWon targets.now (N.net net.old) (N.net net.new) w.0 w.1)) }
     ensures none { result ≡ Ok None → (items : List Item) × LeavesNone (N.net net.old) (N.net net.new) items }
 {
     let ended = match establish(racer, 0, targets, net) {

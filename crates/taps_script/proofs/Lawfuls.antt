@@ -3,15 +3,9 @@ use Rattle.std.proofs.Common.{◌≡◌, ℕ, ◌≤◌, true, false, arith}
 use Rattle.taps_base.specs.Counts.{Rose}
 use Rattle.taps_socket.specs.declared.item.How.{How}
 use Rattle.taps_socket.specs.declared.item.How.TheVariants as how
-use Rattle.taps_socket.specs.declared.answers.StartAnswer.{StartAnswer}
-use Rattle.taps_socket.specs.declared.answers.StartAnswer.TheVariants as start
-use Rattle.taps_socket.specs.Net.{Net, GivesNewSocket, MayEnd}
+use Rattle.taps_socket.specs.Net.{Net, MayEnd}
 use Rattle.taps_script.specs.ScriptNet.{count_after}
-use Rattle.taps_socket.specs.Shows.{StartsNew, EndsInTime, is_fault_end}
-
-pub starts_new : (answer : StartAnswer) (net : Net) → GivesNewSocket answer net → StartsNew answer net.trace
-starts_new (start.Started socket at) net h = h.number
-starts_new (start.Refused cause at) net h = tt
+use Rattle.taps_socket.specs.Shows.{EndsInTime, is_fault_end}
 
 pub ends_in_time : (end : How) (until at : ℕ) (before after : Net) → MayEnd end until at before after → EndsInTime end until at before.trace
 ends_in_time how.Reached until at before after h = h

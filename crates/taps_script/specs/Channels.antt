@@ -7,7 +7,8 @@ use Rattle.taps_script.specs.ScriptLines.{is_echoing}
 use Rattle.taps_script.specs.PeerTimes.{sent_pieces}
 use Rattle.taps_script.specs.DataAnswers.{Link}
 
--- whether the socket carries a stream; when it completes; its room; the time of its last Sent; the pieces that were written; and how many bytes of the stream, or how many datagrams, were read
+-- whether the socket carries a stream; when it completes; its room; the time of its last Sent; the pieces that were
+-- written; and how many bytes of the stream, or how many datagrams, were read
 pub record Channel : Type 0 where
   pub stream : Bool
   pub done : ℕ
@@ -60,7 +61,12 @@ IsWithin lines c = c.read ≤ most_read c.stream (source lines c.written)
 
 -- what is seen of it
 abbrev pub traffic_of : List Line → Channel → Traffic
-traffic_of lines c = record { room = c.room; last_sent = c.last_sent; written = Some c.written; read = Some (read_pieces c.stream c.read (source lines c.written)) }
+traffic_of lines c = record {
+  room = c.room;
+  last_sent = c.last_sent;
+  written = Some c.written;
+  read = Some (read_pieces c.stream c.read (source lines c.written));
+}
 
 -- a socket with no traffic
 abbrev pub no_traffic : Traffic
@@ -80,4 +86,9 @@ pub record IsRoomy (stream : Bool) (room len capacity : ℕ) (lengths : List ℕ
 
 -- the link of a socket by its channel
 abbrev pub link_of : List Line → Channel → Link
-link_of lines c = record { stream = c.stream; done = c.done; written = c.written; read = read_pieces c.stream c.read (source lines c.written) }
+link_of lines c = record {
+  stream = c.stream;
+  done = c.done;
+  written = c.written;
+  read = read_pieces c.stream c.read (source lines c.written);
+}

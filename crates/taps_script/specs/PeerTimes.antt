@@ -1,4 +1,5 @@
--- What the other end of a socket has done at a time, by its lines (local). `done` is the time at which the socket completed, from which delays count.
+-- What the other end of a socket has done at a time, by its lines (local). `done` is the time at which the socket
+-- completed, from which delays count.
 use Rattle.std.specs.Prelude.{ℕ, ◌+◌, Bool, false, ◌||◌, nat_le, nat_lt, if◌then◌else◌, List, [], ◌∷◌, Option, None, Some}
 use Rattle.taps_socket.specs.declared.cause.Cause.{Cause}
 use Rattle.taps_script.specs.declared.line.PeerLine.TheVariants.{Sends, Ends, Fails}
@@ -13,7 +14,8 @@ sent_by _ = None
 -- the pieces that it has sent, oldest first; their delays never fall
 abbrev pub arrived : ℕ → ℕ → List Line → List (List ℕ)
 arrived done now [] = []
-arrived done now (Peer (Sends delay bytes) ∷ lines) = if nat_le (done + delay) now then bytes ∷ arrived done now lines else []
+arrived done now (Peer (Sends delay bytes) ∷ lines) =
+    if nat_le (done + delay) now then bytes ∷ arrived done now lines else []
 arrived done now (_ ∷ lines) = arrived done now lines
 
 -- it has ended its stream
@@ -25,16 +27,19 @@ has_ended done now (_ ∷ lines) = has_ended done now lines
 -- it has failed, with this cause
 abbrev pub failure : ℕ → ℕ → List Line → Option Cause
 failure done now [] = None
-failure done now (Peer (Fails delay cause) ∷ lines) = if nat_le (done + delay) now then Some cause else failure done now lines
+failure done now (Peer (Fails delay cause) ∷ lines) =
+    if nat_le (done + delay) now then Some cause else failure done now lines
 failure done now (_ ∷ lines) = failure done now lines
 
--- when it does what a line says, if that is something that a receive sees; the end of a stream is nothing over datagrams
+-- when it does what a line says, if that is something that a receive sees; the end of a stream is nothing over
+-- datagrams
 abbrev pub time_of : Bool → ℕ → Line → Option ℕ
 time_of stream done (Peer (Sends delay bytes)) = Some (done + delay)
 time_of stream done (Peer (Ends delay)) = if stream then Some (done + delay) else None
 time_of stream done (Peer (Fails delay cause)) = Some (done + delay)
 time_of stream done _ = None
 
+-- a time, if it is there and still to come, or else a later one
 abbrev pub next_by : Option ℕ → ℕ → Option ℕ → Option ℕ
 next_by None now later = later
 next_by (Some at) now later = if nat_lt now at then Some at else later

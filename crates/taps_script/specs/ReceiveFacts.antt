@@ -9,11 +9,13 @@ use Rattle.taps_script.specs.ScriptNet.{Scripted, link_at, read_by, IsChannelOf,
 
 -- a receive: its answer by what came
 abbrev pub IsFound : List Line → Link → ℕ → ℕ → ReceiveStep → RecvAnswer → Type 0
-IsFound lines link most until step (recv.Got count at) = (length step.came ≡ count) × (1 ≤ count) × (at ≡ step.clock) × (step.came ≡ found lines link at most)
+IsFound lines link most until step (recv.Got count at) =
+    (length step.came ≡ count) × (1 ≤ count) × (at ≡ step.clock) × (step.came ≡ found lines link at most)
 IsFound lines link most until step recv.End = link.stream ≡ true
 IsFound lines link most until step (recv.Timed at) = (until ≤ at) × (at ≡ step.clock)
 IsFound lines link most until step (recv.Failed cause) = Unit {0}
 
+-- a receive comes not before the clock and in time, and its answer is what is found
 pub record IsReceived (lines : List Line) (link : Link) (now most until : ℕ) (step : ReceiveStep) : Type 0 where
   pub later : now ≤ step.clock
   pub fits : step.clock < 2 ^ 63

@@ -1,4 +1,5 @@
--- What scripted sockets answer to starts and waits (local), by the lines, the clock and the items so far. A trace stands with its newest item first.
+-- What scripted sockets answer to starts and waits (local), by the lines, the clock and the items so far. A trace
+-- stands with its newest item first.
 use Rattle.std.specs.Prelude.{ℕ, ◌+◌, ◌-◌, ◌^◌, Bool, ◌==◌, nat_le, nat_lt, min, max, if◌then◌else◌, List, [], ◌∷◌, length, fold, Option, None, Some}
 use Rattle.std.specs.List.{filter_map}
 use Rattle.std.specs.Option.{option_map_or}
@@ -36,7 +37,8 @@ to_come _ socket at = None
 -- the event of a socket, by the line of the leaf for which it was started
 abbrev pub event : List Line → List Item → ℕ → Option WaitAnswer
 event lines [] s = None
-event lines (item.Started leaf target socket at ∷ earlier) s = if socket == s then to_come (fate_under leaf lines) socket at else event lines earlier s
+event lines (item.Started leaf target socket at ∷ earlier) s =
+    if socket == s then to_come (fate_under leaf lines) socket at else event lines earlier s
 event lines (_ ∷ earlier) s = event lines earlier s
 
 -- the events of the pending sockets, the first started first, so that the numbers of their sockets rise
@@ -52,17 +54,22 @@ abbrev pub earlier : Option WaitAnswer → WaitAnswer → Option WaitAnswer
 earlier None next = Some next
 earlier (Some best) next = if nat_lt next.at best.at then Some next else Some best
 
+-- the earliest of the events, if there are any
 abbrev pub first_event : List WaitAnswer → Option WaitAnswer
 first_event events = fold earlier None events
 
 -- a wait in which nothing comes of a socket, at this moment of the clock
 abbrev pub idle_answer : ℕ → ℕ → ℕ → WaitAnswer
-idle_answer now late until = if nat_lt until (2 ^ 63) then record { at = min (max now until + late) (2 ^ 63 - 1); how = Reached } else record { at = now; how = Faulted }
+idle_answer now late until = if nat_lt until (2 ^ 63) then record {
+  at = min (max now until + late) (2 ^ 63 - 1);
+  how = Reached;
+} else record { at = now; how = Faulted }
 
 -- a wait that is not to fault, by the event that comes first
 abbrev pub answer_by : ℕ → ℕ → ℕ → Option WaitAnswer → WaitAnswer
 answer_by now late until None = idle_answer now late until
-answer_by now late until (Some event) = if nat_le event.at until then record { at = max now event.at; how = event.how } else idle_answer now late until
+answer_by now late until (Some event) =
+    if nat_le event.at until then record { at = max now event.at; how = event.how } else idle_answer now late until
 
 -- the answer to a wait, at this time of the clock
 abbrev pub wait_answer : List Line → ℕ → List Item → ℕ → WaitAnswer
@@ -85,5 +92,6 @@ start_answer lines now trace leaf =
 abbrev pub time_in : Option WaitAnswer → ℕ
 time_in event = option_map_or (λ e. e.at) event 0
 
+-- the time from which the delays of a socket count
 abbrev pub done_of : List Line → List Item → ℕ → ℕ
 done_of lines trace s = time_in (event lines trace s)

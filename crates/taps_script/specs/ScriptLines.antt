@@ -42,12 +42,13 @@ fate_under leaf [] = Silent
 fate_under leaf (Leaf k fate ∷ lines) = if k == leaf then fate else fate_under leaf lines
 fate_under leaf (_ ∷ lines) = fate_under leaf lines
 
--- how many bytes a send over a stream takes at most, if a line says it, and how many a receive gives
+-- the most bytes that a send over a stream takes, where a line says so
 abbrev pub take_in : List Line → Option ℕ
 take_in [] = None
 take_in (Take most ∷ lines) = Some most
 take_in (_ ∷ lines) = take_in lines
 
+-- the most bytes that a receive gives, where a line says so
 abbrev pub give_in : List Line → Option ℕ
 give_in [] = None
 give_in (Give most ∷ lines) = Some most

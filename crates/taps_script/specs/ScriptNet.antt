@@ -31,7 +31,8 @@ use Rattle.taps_script.specs.DataAnswers.{Link}
 use Rattle.taps_script.specs.Channels.{Channel, fresh, traffic_at, IsWithin}
 use Rattle.taps_script.specs.ScriptSteps.{link_by, clock_after, Follows}
 
--- the lines of the script; the clock; the items so far, newest first; the last reported time; the spare items; the count of faults; the channel of each started socket; and the timed calls
+-- the lines of the script; the clock; the items so far, newest first; the last reported time; the spare items; the
+-- count of faults; the channel of each started socket; and the timed calls
 pub record Scripted : Type 0 where
   pub lines : List Line
   pub clock : ℕ
@@ -59,7 +60,17 @@ net_of s =
 -- before the first call
 abbrev pub at_first : List Line → Scripted
 at_first lines =
-    record { lines = lines; clock = begin_of lines; trace = []; told = 0; spare = 0; faults = 0; channels = []; timed = 0; last_timed = None }
+    record {
+      lines = lines;
+      clock = begin_of lines;
+      trace = [];
+      told = 0;
+      spare = 0;
+      faults = 0;
+      channels = [];
+      timed = 0;
+      last_timed = None;
+    }
 
 -- the sockets with one item more that comes of no wait, told at a time, at this time of the clock
 abbrev pub after_quiet : Scripted → Item → ℕ → ℕ → Scripted
@@ -72,7 +83,8 @@ after_start s leaf target socket at =
       trace = item.Started leaf target socket at ∷ s.trace;
       told = at;
       spare = s.spare - 1;
-      channels = s.channels ++ fresh (is_stream target.stack) (answers.time_in (answers.to_come (fate_under leaf s.lines) socket at)) ∷ [];
+      channels = s.channels ++ fresh (is_stream target.stack)
+          (answers.time_in (answers.to_come (fate_under leaf s.lines) socket at)) ∷ [];
     }
 
 -- the sockets after a timed call
@@ -81,8 +93,10 @@ after_timed s call = record s { clock = call.at; told = call.at; timed = one_mor
 
 -- the channel of a socket after bytes were taken at a time, and after so much was read
 abbrev pub sent_in : Channel → List ℕ → ℕ → Channel
-sent_in c bytes at = record c { room = c.room - length bytes; last_sent = Some at; written = with_piece c.stream bytes c.written }
+sent_in c bytes at =
+    record c { room = c.room - length bytes; last_sent = Some at; written = with_piece c.stream bytes c.written }
 
+-- a channel of which so much more was read
 abbrev pub read_in : Channel → ℕ → Channel
 read_in c count = record c { read = c.read + count }
 
@@ -101,6 +115,7 @@ pub record IsReadable (lines : List Line) (c : Channel) (count : ℕ) : Type 0 w
 abbrev pub with_channel : Scripted → ℕ → Channel → Scripted
 with_channel s socket c = record s { channels = slice_set s.channels socket c }
 
+-- the clock stands at this time, which was reported
 abbrev pub at_time : Scripted → ℕ → Scripted
 at_time s at = record s { clock = at; told = at }
 
@@ -110,6 +125,7 @@ IsSendAnswerAt (send.Sent count at) clock stream n until = IsCount count n × (s
 IsSendAnswerAt (send.Timed at) clock stream n until = (until ≤ at) × (at ≡ clock)
 IsSendAnswerAt (send.Failed cause) clock stream n until = Unit {0}
 
+-- a send comes not before the last reported time and in time, and its answer is one that a send may have
 pub record IsSendStep (step : SendStep) (stream : Bool) (n until told : ℕ) : Type 0 where
   pub later : told ≤ step.clock
   pub fits : step.clock < 2 ^ 63
@@ -122,6 +138,7 @@ IsReceiveAnswerAt recv.End clock until = Unit {0}
 IsReceiveAnswerAt (recv.Timed at) clock until = (until ≤ at) × (at ≡ clock)
 IsReceiveAnswerAt (recv.Failed cause) clock until = Unit {0}
 
+-- a receive comes not before the last reported time and in time, and its answer is one that it may have
 pub record IsReceiveStep (answer : RecvAnswer) (clock until told : ℕ) : Type 0 where
   pub later : told ≤ clock
   pub fits : clock < 2 ^ 63
@@ -132,6 +149,7 @@ abbrev pub read_count : Bool → ℕ → ℕ
 read_count true count = count
 read_count false count = 1
 
+-- how much an answer reads: bytes of a stream, or a datagram
 abbrev pub read_by : Bool → RecvAnswer → ℕ
 read_by stream (recv.Got count at) = read_count stream count
 read_by stream recv.End = 0
@@ -140,20 +158,27 @@ read_by stream (recv.Failed cause) = 0
 
 -- the sockets after a send, with the channel of its socket before
 abbrev pub after_send_by : Scripted → ℕ → Channel → List ℕ → ℕ → ℕ → SendAnswer → Scripted
-after_send_by s socket c bytes until clock (send.Sent count at) = at_time (with_channel s socket (sent_in c (take count bytes) at)) at
-after_send_by s socket c bytes until clock (send.Timed at) = after_timed s (record { kind = kind.Send; socket = socket; until = until; at = at })
-after_send_by s socket c bytes until clock (send.Failed cause) = after_quiet s (item.DataFailed socket true cause) clock s.told
+after_send_by s socket c bytes until clock (send.Sent count at) =
+    at_time (with_channel s socket (sent_in c (take count bytes) at)) at
+after_send_by s socket c bytes until clock (send.Timed at) =
+    after_timed s (record { kind = kind.Send; socket = socket; until = until; at = at })
+after_send_by s socket c bytes until clock (send.Failed cause) =
+    after_quiet s (item.DataFailed socket true cause) clock s.told
 
 -- and after a receive
 abbrev pub after_receive_by : Scripted → ℕ → Channel → ℕ → ℕ → RecvAnswer → Scripted
-after_receive_by s socket c until clock (recv.Got count at) = at_time (with_channel s socket (read_in c (read_count c.stream count))) at
+after_receive_by s socket c until clock (recv.Got count at) =
+    at_time (with_channel s socket (read_in c (read_count c.stream count))) at
 after_receive_by s socket c until clock recv.End = after_quiet s (item.Ended socket) clock s.told
-after_receive_by s socket c until clock (recv.Timed at) = after_timed s (record { kind = kind.Recv; socket = socket; until = until; at = at })
-after_receive_by s socket c until clock (recv.Failed cause) = after_quiet s (item.DataFailed socket false cause) clock s.told
+after_receive_by s socket c until clock (recv.Timed at) =
+    after_timed s (record { kind = kind.Recv; socket = socket; until = until; at = at })
+after_receive_by s socket c until clock (recv.Failed cause) =
+    after_quiet s (item.DataFailed socket false cause) clock s.told
 
 -- the link of a socket by what is seen
 abbrev pub link_at : Scripted → ℕ → Link
-link_at s socket = link_by s.lines s.trace socket (traffic_at s.lines s.channels socket).written (traffic_at s.lines s.channels socket).read
+link_at s socket = link_by s.lines s.trace socket
+    (traffic_at s.lines s.channels socket).written (traffic_at s.lines s.channels socket).read
 
 -- the count of faults after a wait that ended so
 abbrev pub count_after : How → ℕ → ℕ
@@ -163,7 +188,13 @@ count_after _ faults = faults
 -- the sockets after a wait that ended so
 abbrev pub after_wait : Scripted → ℕ → WaitAnswer → Scripted
 after_wait s until answer =
-    record s { clock = answer.at; trace = item.Waited until answer.at answer.how ∷ s.trace; told = answer.at; spare = s.spare - 1; faults = count_after answer.how s.faults }
+    record s {
+      clock = answer.at;
+      trace = item.Waited until answer.at answer.how ∷ s.trace;
+      told = answer.at;
+      spare = s.spare - 1;
+      faults = count_after answer.how s.faults;
+    }
 
 -- the events after such a wait: that of the socket of which it told is gone
 abbrev pub without_told : How → List WaitAnswer → List WaitAnswer
@@ -188,8 +219,10 @@ pub record AreChannels (lines : List Line) (trace : List Item) (started : ℕ) (
   pub count : started ≡ length channels
   pub each : (s : ℕ) (c : Channel) → slice_get channels s ≡ Some c → IsChannelOf lines trace s c
 
--- the numbers of waits and of started sockets and the events are what the script's lines and the items tell, no time was told past the clock, and no socket is named that was not started
-pub record IsKept (lines : List Line) (trace : List Item) (now told waits started : ℕ) (events : List WaitAnswer) : Type 0 where
+-- the numbers of waits and of started sockets and the events are what the script's lines and the items tell, no time
+-- was told past the clock, and no socket is named that was not started
+pub record IsKept (lines : List Line) (trace : List Item)
+    (now told waits started : ℕ) (events : List WaitAnswer) : Type 0 where
   pub fits : now < 2 ^ 63
   pub told_before : told ≤ now
   pub waits_are : waits ≡ answers.waits trace
@@ -216,7 +249,8 @@ IsQuiet (item.Ended socket) trace = has (named trace) socket ≡ true
 IsQuiet (item.DataFailed socket sending cause) trace = has (named trace) socket ≡ true
 IsQuiet _ trace = ⊥
 
--- the sockets represent these calls: each was the script's answer, and the clock, the items and the pieces are those that follow
+-- the sockets represent these calls: each was the script's answer, and the clock, the items and the pieces are those
+-- that follow
 pub record Represents (s : Scripted) (calls : List Call) : Type 0 where
   pub follows : Follows s.lines calls
   pub clock : s.clock ≡ clock_after s.lines calls

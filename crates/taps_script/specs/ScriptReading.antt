@@ -17,7 +17,8 @@ use Rattle.taps_script.specs.declared.line.Line.TheVariants.{Begin, Late, Fault,
 -- what stands before the first such byte, and what behind it
 abbrev pub split_at_byte : ℕ → List ℕ → Option (List ℕ × List ℕ)
 split_at_byte mark [] = None
-split_at_byte mark (b ∷ text) = if b == mark then Some ([], text) else option_map (λ p. (b ∷ p.0, p.1)) (split_at_byte mark text)
+split_at_byte mark (b ∷ text) =
+    if b == mark then Some ([], text) else option_map (λ p. (b ∷ p.0, p.1)) (split_at_byte mark text)
 
 -- the first word, and what stands behind its space
 unfoldable pub split_word : List ℕ → Option (List ℕ × List ℕ)
@@ -62,7 +63,8 @@ number_of text = number_up_to (2 ^ 32 - 1) text
 -- a delay, and behind a space a cause
 unfoldable pub break_of : List ℕ → Option Fate
 break_of text =
-    option_and_then (λ p. option_and_then (λ delay. option_map (λ c. Breaks delay c) (cause_of p.1)) (number_of p.0)) (split_word text)
+    option_and_then (λ p. option_and_then (λ delay. option_map (λ c. Breaks delay c) (cause_of p.1)) (number_of p.0))
+    (split_word text)
 
 -- the fates, by their first word
 unfoldable pub fate_by : List ℕ → List ℕ → Option Fate
@@ -72,8 +74,10 @@ fate_by word rest =
     else if bytes_eq word (codes "breaks") then break_of rest
     else None
 
+-- the fate of a leaf's attempt
 unfoldable pub fate_of : List ℕ → Option Fate
-fate_of text = if bytes_eq text (codes "silent") then Some Silent else option_and_then (λ p. fate_by p.0 p.1) (split_word text)
+fate_of text =
+    if bytes_eq text (codes "silent") then Some Silent else option_and_then (λ p. fate_by p.0 p.1) (split_word text)
 
 -- the number of a leaf
 unfoldable pub leaf_number : List ℕ → Option ℕ
@@ -82,7 +86,8 @@ leaf_number text = number_up_to 4095 text
 -- a leaf, and behind a space its fate
 unfoldable pub leaf_of : List ℕ → Option Line
 leaf_of text =
-    option_and_then (λ p. option_and_then (λ leaf. option_map (λ fate. Leaf leaf fate) (fate_of p.1)) (leaf_number p.0)) (split_word text)
+    option_and_then (λ p. option_and_then (λ leaf. option_map (λ fate. Leaf leaf fate) (fate_of p.1)) (leaf_number p.0))
+    (split_word text)
 
 -- from 1 to 65,536 bytes
 unfoldable pub limit_of : List ℕ → Option ℕ
@@ -100,12 +105,14 @@ bytes_of text = if (length text == 0) || nat_lt 131014 (length text) then None e
 -- a delay, and behind a space bytes
 unfoldable pub sends_of : List ℕ → Option PeerLine
 sends_of text =
-    option_and_then (λ p. option_and_then (λ delay. option_map (λ bytes. Sends delay bytes) (bytes_of p.1)) (number_of p.0)) (split_word text)
+    option_and_then (λ p. option_and_then (λ delay. option_map (λ bytes. Sends delay bytes) (bytes_of p.1))
+    (number_of p.0)) (split_word text)
 
 -- a delay, and behind a space a cause
 unfoldable pub fails_of : List ℕ → Option PeerLine
 fails_of text =
-    option_and_then (λ p. option_and_then (λ delay. option_map (λ c. Fails delay c) (cause_of p.1)) (number_of p.0)) (split_word text)
+    option_and_then (λ p. option_and_then (λ delay. option_map (λ c. Fails delay c) (cause_of p.1)) (number_of p.0))
+    (split_word text)
 
 -- what the other end does besides its sends, by the first word
 unfoldable pub turn_by : List ℕ → List ℕ → Option PeerLine
@@ -115,11 +122,14 @@ turn_by word rest =
     else if bytes_eq word (codes "fails") then fails_of rest
     else None
 
+-- a line on the other end, by its first word and the rest
 unfoldable pub peer_by : List ℕ → List ℕ → Option PeerLine
 peer_by word rest = if bytes_eq word (codes "sends") then sends_of rest else turn_by word rest
 
+-- a line on the other end
 unfoldable pub peer_of : List ℕ → Option PeerLine
-peer_of text = if bytes_eq text (codes "echo") then Some Echo else option_and_then (λ p. peer_by p.0 p.1) (split_word text)
+peer_of text =
+    if bytes_eq text (codes "echo") then Some Echo else option_and_then (λ p. peer_by p.0 p.1) (split_word text)
 
 -- the lines but those of the other end, by their first word
 unfoldable pub own_line_by : List ℕ → List ℕ → Option Line
@@ -132,8 +142,10 @@ own_line_by word rest =
     else if bytes_eq word (codes "give") then option_map Give (limit_of rest)
     else None
 
+-- a line, by its first word and the rest
 unfoldable pub line_by : List ℕ → List ℕ → Option Line
 line_by word rest = if bytes_eq word (codes "peer") then option_map Peer (peer_of rest) else own_line_by word rest
 
+-- a line of a script
 unfoldable pub line_of : List ℕ → Option Line
 line_of text = option_and_then (λ p. line_by p.0 p.1) (split_word text)

@@ -1,4 +1,5 @@
--- The texts of a script's lines (local): words with one space between them, numbers in decimal without leading zeros, bytes as two hexadecimal digits each.
+-- The texts of a script's lines (local): words with one space between them, numbers in decimal without leading zeros,
+-- bytes as two hexadecimal digits each.
 use Rattle.std.specs.Prelude.{◌≡◌, ◌<◌, ◌≤◌, ℕ, ◌^◌, List, [], ◌∷◌, ◌++◌, codes, length, Ok}
 use Rattle.std.specs.Fmt.{decimal}
 use Rattle.hex.specs.Hex.{decode_of}
@@ -27,7 +28,8 @@ pub record IsHexOf (bytes hex : List ℕ) : Type 0 where
 abbrev pub IsPeerText : PeerLine → List ℕ → Type 0
 IsPeerText (Holds delay) text = text ≡ codes "holds " ++ decimal delay
 IsPeerText Echo text = text ≡ codes "echo"
-IsPeerText (Sends delay bytes) text = (hex : List ℕ) × IsHexOf bytes hex × (text ≡ codes "sends " ++ (decimal delay ++ (codes " " ++ hex)))
+IsPeerText (Sends delay bytes) text =
+    (hex : List ℕ) × IsHexOf bytes hex × (text ≡ codes "sends " ++ (decimal delay ++ (codes " " ++ hex)))
 IsPeerText (Ends delay) text = text ≡ codes "ends " ++ decimal delay
 IsPeerText (Fails delay cause) text = text ≡ codes "fails " ++ (decimal delay ++ (codes " " ++ cause_word cause))
 
@@ -48,6 +50,7 @@ FateFits (Completes delay) = delay < 2 ^ 32
 FateFits (Breaks delay cause) = delay < 2 ^ 32
 FateFits Silent = Unit {0}
 
+-- the numbers and bytes of a line on the other end keep their limits
 abbrev pub PeerFits : PeerLine → Type 0
 PeerFits (Holds delay) = delay < 2 ^ 32
 PeerFits Echo = Unit {0}
@@ -55,6 +58,7 @@ PeerFits (Sends delay bytes) = (delay < 2 ^ 32) × (length bytes ≤ 65507)
 PeerFits (Ends delay) = delay < 2 ^ 32
 PeerFits (Fails delay cause) = delay < 2 ^ 32
 
+-- the numbers of a line keep their limits
 abbrev pub LineFits : Line → Type 0
 LineFits (Begin moment) = moment < 2 ^ 63
 LineFits (Late delay) = delay < 2 ^ 32

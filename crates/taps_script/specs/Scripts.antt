@@ -33,10 +33,12 @@ delay_of (Sends delay bytes) = Some delay
 delay_of (Ends delay) = Some delay
 delay_of (Fails delay cause) = Some delay
 
+-- it holds back sends
 abbrev pub is_holds : PeerLine → Bool
 is_holds (Holds delay) = true
 is_holds _ = false
 
+-- it sends back what comes
 abbrev pub is_echo : PeerLine → Bool
 is_echo Echo = true
 is_echo _ = false
@@ -46,7 +48,8 @@ abbrev pub is_below : ℕ → Option ℕ → Bool
 is_below delay None = false
 is_below delay (Some other) = nat_lt other delay
 
--- a line of the other end may not follow one: there is one hold alone; an echo stands alone beside it; delays never fall; and nothing follows an end or a failure
+-- a line of the other end may not follow one: there is one hold alone; an echo stands alone beside it; delays never
+-- fall; and nothing follows an end or a failure
 abbrev pub peer_bars : PeerLine → PeerLine → Bool
 peer_bars (Holds delay) later = is_holds later
 peer_bars Echo later = not (is_holds later)
@@ -69,7 +72,8 @@ bars _ _ = false
 abbrev pub are_barring : List Line → Line → Bool
 are_barring lines line = list_any (λ l. bars l line) lines
 
--- the lines with the one of a text, or the number of the text, where it is bad: it is that of no line, or of one that may not follow these
+-- the lines with the one of a text, or the number of the text, where it is bad: it is that of no line, or of one that
+-- may not follow these
 abbrev pub with_line : ℕ → List Line → Option Line → Result (List Line) ℕ
 with_line number lines None = Err number
 with_line number lines (Some line) = if are_barring lines line then Err number else Ok (lines ++ line ∷ [])
@@ -89,7 +93,8 @@ result_then f (Err e) = Err e
 -- the lines after these and some texts, the first of them with this number
 abbrev pub script_from : ℕ → List Line → List (List ℕ) → Result (List Line) ℕ
 script_from number lines [] = Ok lines
-script_from number lines (text ∷ texts) = result_then (λ more. script_from (number + 1) more texts) (with_text number lines text)
+script_from number lines (text ∷ texts) =
+    result_then (λ more. script_from (number + 1) more texts) (with_text number lines text)
 
 -- the lines of a script, or the number of the first bad one, counted from 1
 abbrev pub script_of : List ℕ → Result (List Line) ℕ
@@ -116,7 +121,8 @@ AreTexts [] [] = Unit {0}
 AreTexts (text ∷ texts) (line ∷ lines) = IsLineText line text × AreTexts texts lines
 AreTexts _ _ = ⊥
 
--- these bytes are a script of these lines: theirs are the texts that are not passed over, in order, and there are 4096 texts at most
+-- these bytes are a script of these lines: theirs are the texts that are not passed over, in order, and there are 4096
+-- texts at most
 pub record IsScriptOf (lines : List Line) (bytes : List ℕ) : Type 0 where
   pub texts : AreTexts (filter (λ text. not (is_passed_over text)) (texts_of bytes)) lines
   pub in_order : AreInOrder lines

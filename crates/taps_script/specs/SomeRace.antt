@@ -13,13 +13,16 @@ use Rattle.taps_script.specs.ScriptNet.{Scripted, Represents}
 -- there is a lawful race, with its answer, whose calls the script answers so
 abbrev pub GoesSomeWay : List Line → Rules → ℕ → List Target → List Call → Type 0
 GoesSomeWay lines rules first targets earlier =
-    (calls : List Call) × (race : List Item) × (answer : RaceAnswer) × IsScriptedRace lines rules first targets earlier calls race answer
+    (calls : List Call) × (race : List Item) × (answer : RaceAnswer)
+    × IsScriptedRace lines rules first targets earlier calls race answer
 
 -- so it is under all rules that have a gap for each target
 abbrev pub GoesUnderAllRules : List Line → List Call → Type 0
-GoesUnderAllRules lines earlier = (rules : Rules) (first : ℕ) (targets : List Target) → length rules.gaps ≡ length targets →
+GoesUnderAllRules lines earlier =
+    (rules : Rules) (first : ℕ) (targets : List Target) → length rules.gaps ≡ length targets →
     GoesSomeWay lines rules first targets earlier
 
 -- and so after all calls that the sockets represent, where no socket is pending
 abbrev pub GoesOnFrom : Scripted → Type 0
-GoesOnFrom sockets = (earlier : List Call) → Represents sockets earlier → pending_sockets sockets.trace ≡ [] → GoesUnderAllRules sockets.lines earlier
+GoesOnFrom sockets = (earlier : List Call) → Represents sockets earlier
+    → pending_sockets sockets.trace ≡ [] → GoesUnderAllRules sockets.lines earlier

@@ -1,4 +1,4 @@
-ghost use Rattle.std.specs.Prelude.{◌≡◌, ◌<◌, ◌≤◌, ◌+◌, ◌-◌, ◌^◌, ◌++◌, ◌∷◌, [], max, min, length, take, drop, true, false, Some, None, OnOk, OnErr, vec_len, vec_capacity};
+ghost use Rattle.std.specs.Prelude.{◌≡◌, ◌<◌, ◌≤◌, ◌+◌, ◌-◌, ◌^◌, [], max, length, drop, true, false, Some, None, OnOk, OnErr, vec_len, vec_capacity};
 ghost use Rattle.std.specs.List.{concat};
 ghost use Rattle.taps_socket.specs.Net.{with_piece};
 ghost use Rattle.taps_script.specs.Channels.{fresh, cut, total, most_read};
@@ -30,9 +30,17 @@ impl Model for Channel {
 
     ghost Value = { channels.Channel };
 
-    ghost view = { λ c. record { stream = c.stream; done = c.done; room = c.room; last_sent = c.last_sent; written = pieces_of c.stream c.bytes.items c.lengths.items; read = c.read } };
+    ghost view = { λ c. record {
+      stream = c.stream;
+      done = c.done;
+      room = c.room;
+      last_sent = c.last_sent;
+      written = pieces_of c.stream c.bytes.items c.lengths.items;
+      read = c.read;
+    } };
 
-    ghost invariant = { λ c. IsRoomy c.stream c.room (vec_len c.bytes) (vec_capacity c.bytes) c.lengths.items (vec_len c.lengths) (vec_capacity c.lengths) };
+    ghost invariant = { λ c. IsRoomy c.stream c.room (vec_len c.bytes)
+        (vec_capacity c.bytes) c.lengths.items (vec_len c.lengths) (vec_capacity c.lengths) };
 }
 
 impl Channel {
@@ -91,7 +99,11 @@ impl Channel {
         requires room { length bytes.now ≤ self.old.room }
         requires some { 1 ≤ length bytes.now }
         requires datagram { self.old.stream ≡ false → length bytes.now ≤ 65507 }
-        ensures { self.new ≡ record self.old { room = self.old.room - length bytes.now; last_sent = Some at; written = with_piece self.old.stream bytes.now self.old.written } }
+        ensures { self.new ≡ record self.old {
+          room = self.old.room - length bytes.now;
+          last_sent = Some at;
+          written = with_piece self.old.stream bytes.now self.old.written;
+        } }
     {
         if self.stream {
             self.append_stream(bytes);
@@ -105,7 +117,10 @@ impl Channel {
         requires room { length bytes.now ≤ self.old.room }
         requires some { 1 ≤ length bytes.now }
         requires stream { self.old.stream ≡ true }
-        ensures { self.new ≡ record self.old { room = self.old.room - length bytes.now; written = with_piece true bytes.now self.old.written } }
+        ensures { self.new ≡ record self.old {
+          room = self.old.room - length bytes.now;
+          written = with_piece true bytes.now self.old.written;
+        } }
     {
         self.room -= bytes.len();
         append(&mut self.bytes, bytes);
@@ -116,7 +131,10 @@ impl Channel {
         requires some { 1 ≤ length bytes.now }
         requires datagram { length bytes.now ≤ 65507 }
         requires stream { self.old.stream ≡ false }
-        ensures { self.new ≡ record self.old { room = self.old.room - length bytes.now; written = with_piece false bytes.now self.old.written } }
+        ensures { self.new ≡ record self.old {
+          room = self.old.room - length bytes.now;
+          written = with_piece false bytes.now self.old.written;
+        } }
     {
         self.room -= bytes.len();
         append(&mut self.bytes, bytes);

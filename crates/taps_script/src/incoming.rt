@@ -150,7 +150,8 @@ fn next_datagram<'a>(lines: &'a [Line], channel: &'a Channel, now: u64) -> &'a [
     requires stream { channel.now.stream ≡ false }
     requires fit { LinesFit lines.now }
     requires within { IsWithin lines.now channel.now }
-    ensures bytes { result.now ≡ first_piece (drop (length (link_of lines.now channel.now).read) (incoming lines.now (link_of lines.now channel.now) now)) }
+    ensures bytes { result.now ≡ first_piece
+        (drop (length (link_of lines.now channel.now).read) (incoming lines.now (link_of lines.now channel.now) now)) }
     ensures few { length result.now ≤ 65535 }
 {
     if is_echoing(lines) {

@@ -1,9 +1,8 @@
 // What the other end of a socket has done at a time, by the lines of a script.
-ghost use Rattle.std.specs.Prelude.{◌≡◌, ◌<◌, ◌≤◌, ◌+◌, ◌-◌, ◌^◌, length, take, drop};
-ghost use Rattle.std.specs.List.{concat};
+ghost use Rattle.std.specs.Prelude.{◌≡◌, ◌<◌, ◌+◌, ◌-◌, ◌^◌};
 ghost use Rattle.taps_script.specs.ScriptLines.{take_in, give_in, hold_in, is_echoing};
-ghost use Rattle.taps_script.specs.PeerTimes.{arrived, has_ended, failure, time_of, next_time};
-ghost use Rattle.taps_script.specs.DataAnswers.{limited, first_piece};
+ghost use Rattle.taps_script.specs.PeerTimes.{has_ended, failure, time_of, next_time};
+ghost use Rattle.taps_script.specs.DataAnswers.{limited};
 
 use crate::{Line, PeerLine};
 use taps_socket::Cause;

@@ -1,7 +1,6 @@
 // What a receive comes to.
 ghost use Rattle.std.specs.Prelude.{◌≡◌, ◌<◌, ◌≤◌, ◌^◌, length, false, option_map};
 ghost use Rattle.std.specs.Option.{option_and_then};
-ghost use Rattle.taps_socket.specs.Calls.{came_in};
 ghost use Rattle.taps_script.specs.ScriptTexts.{LinesFit};
 ghost use Rattle.taps_script.specs.Channels.{link_of, IsWithin};
 ghost use Rattle.taps_script.specs.DataAnswers as answers;
@@ -33,7 +32,8 @@ fn receive_at(lines: &[Line], channel: &Channel, now: u64, out: &mut [u8]) -> Op
     requires fit { LinesFit lines.now }
     requires within { IsWithin lines.now channel.now }
     requires room { channel.now.stream ≡ false → 65535 ≤ length out.old }
-    ensures answer { option_map (received now out.new) result ≡ answers.receive_at lines.now (link_of lines.now channel.now) (length out.old) now }
+    ensures answer { option_map (received now out.new) result ≡
+        answers.receive_at lines.now (link_of lines.now channel.now) (length out.old) now }
     ensures length { length out.new ≡ length out.old }
 {
     let count = find(lines, channel, now, out);
@@ -65,7 +65,8 @@ fn receive_next(
     requires fit { LinesFit lines.now }
     requires within { IsWithin lines.now channel.now }
     requires room { channel.now.stream ≡ false → 65535 ≤ length out.old }
-    ensures answer { option_map (λ p. received p.0 out.new p.1) result ≡ answers.receive_next lines.now (link_of lines.now channel.now) (length out.old) now until }
+    ensures answer { option_map (λ p. received p.0 out.new p.1) result ≡
+        answers.receive_next lines.now (link_of lines.now channel.now) (length out.old) now until }
     ensures length { length out.new ≡ length out.old }
 {
     let next = next_time(lines, channel.is_stream(), channel.done(), now);
@@ -90,7 +91,8 @@ pub(crate) fn receive_step(
     requires fit { LinesFit lines.now }
     requires within { IsWithin lines.now channel.now }
     requires room { channel.now.stream ≡ false → 65535 ≤ length out.old }
-    ensures answer { received result.0 out.new result.1 ≡ answers.receive_step lines.now (link_of lines.now channel.now) now (length out.old) until }
+    ensures answer { received result.0 out.new result.1 ≡
+        answers.receive_step lines.now (link_of lines.now channel.now) now (length out.old) until }
     ensures length { length out.new ≡ length out.old }
 {
     if let Some(answer) = receive_at(lines, channel, now, out) {

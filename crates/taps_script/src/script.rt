@@ -1,4 +1,4 @@
-ghost use Rattle.std.specs.Prelude.{◌≡◌, ◌<◌, ◌≤◌, ◌^◌, ◌+◌, ◌++◌, ◌||◌, ◌∷◌, [], ℕ, length, IfErr, OnOk, OnErr, vec_len, vec_capacity};
+ghost use Rattle.std.specs.Prelude.{◌≡◌, ◌<◌, ◌≤◌, ◌^◌, ◌+◌, ◌++◌, ◌||◌, ◌∷◌, [], ℕ, length, IfErr, OnOk, OnErr};
 ghost use Rattle.std.specs.Ordering.{nat_cmp};
 ghost use Rattle.std.specs.Option.{option_or};
 ghost use Rattle.std.specs.BTreeSet.{contains};
@@ -123,7 +123,8 @@ fn late_after(late: Option<u32>, line: &Line) -> Option<u32>
 }
 
 fn note_fault(faults: &mut BTreeSet<u64>, line: &Line) -> Result<(), NoMemory>
-    ensures ok { OnOk result ((wait : ℕ) → contains nat_cmp faults.new wait ≡ (contains nat_cmp faults.old wait || says_fault wait line.now)) }
+    ensures ok { OnOk result ((wait : ℕ)
+        → contains nat_cmp faults.new wait ≡ (contains nat_cmp faults.old wait || says_fault wait line.now)) }
     ensures err { OnErr result ((wait : ℕ) → contains nat_cmp faults.new wait ≡ contains nat_cmp faults.old wait) }
 {
     if let Line::Fault(wait) = line {

@@ -1,17 +1,15 @@
-ghost use Rattle.std.specs.Prelude.{◌≡◌, ◌<◌, ◌≤◌, ◌^◌, ◌-◌, ◌∷◌, ◌++◌, [], ◌+◌, ℕ, List, length, reverse, max, slice_get, slice_set, Some, true, false, Err, IfOk, OnOk, OnErr, vec_len, vec_capacity};
-ghost use Rattle.std.proofs.Common.{refl, ◌∙◌};
+ghost use Rattle.std.specs.Prelude.{◌≡◌, ◌<◌, ◌≤◌, ◌^◌, ◌-◌, ◌+◌, ℕ, List, length, reverse, max, slice_get, slice_set, Some, true, false, Err, IfOk, OnOk, OnErr, vec_len, vec_capacity};
 ghost use Rattle.taps_stack.specs.StackTable as stacks;
 ghost use Rattle.taps_socket.specs.declared.item.Item.TheVariants.{Began, Started, Refused, Waited, Closed, Shut, Ended};
 ghost use Rattle.taps_socket.specs.RaceSockets.{has};
 ghost use Rattle.taps_socket.specs.RaceSockets as sockets;
-ghost use Rattle.taps_socket.specs.LiveSockets.{live_sockets, named, named_by_end, IsNewSocket};
-ghost use Rattle.taps_socket.specs.Sides.{carries_stream, may_accept, may_send, may_receive, may_shut};
-ghost use Rattle.taps_socket.specs.Calls.{begins, starts, waits, closes, listens, accepts, sends, shuts, receives, started_item, started_at, listened_item, listened_at, accepted_at, came_in};
-ghost use Rattle.taps_socket.specs.Net.{Net, with_item, with_spare, with_faults, with_room, after_accept, after_send, after_receive, IsNextMoment, GivesNewSocket, GivesListener, MayEnd, IsAcceptAnswer, IsSendAnswer, IsReceiveAnswer};
+ghost use Rattle.taps_socket.specs.LiveSockets.{named, named_by_end};
+ghost use Rattle.taps_socket.specs.Sides.{carries_stream};
+ghost use Rattle.taps_socket.specs.Calls.{waits, started_at};
+ghost use Rattle.taps_socket.specs.Net.{Net, IsNextMoment, GivesNewSocket, MayEnd};
 ghost use Rattle.taps_script.specs.declared.line.Line.{Line};
 ghost use Rattle.taps_script.specs.declared.script_error.ScriptError.TheVariants as error;
 ghost use Rattle.taps_script.specs.SomeRace.{GoesOnFrom};
-ghost use Rattle.taps_script.specs.ScriptLines.{begin_of};
 ghost use Rattle.taps_script.specs.Scripts.{script_of, IsMeaning, IsScriptOf};
 ghost use Rattle.taps_script.specs.ScriptAnswers as answers;
 ghost use Rattle.taps_script.specs.DataAnswers as data_answers;
@@ -65,9 +63,23 @@ impl Model for ScriptSockets {
 
     ghost Value = { Scripted };
 
-    ghost view = { λ s. record { lines = s.script; clock = s.clock; trace = reverse s.items.items; told = s.told; spare = s.spare; faults = s.faults; channels = s.channels.items; timed = s.timed; last_timed = s.last_timed } };
+    ghost view = { λ s. record {
+      lines = s.script;
+      clock = s.clock;
+      trace = reverse s.items.items;
+      told = s.told;
+      spare = s.spare;
+      faults = s.faults;
+      channels = s.channels.items;
+      timed = s.timed;
+      last_timed = s.last_timed;
+    } };
 
-    ghost invariant = { λ s. IsKept s.script (reverse s.items.items) s.clock s.told s.waits s.started s.events.items × AreChannels s.script (reverse s.items.items) s.started s.channels.items × HasRoom s.spare (vec_len s.items) (vec_capacity s.items) × HasRoom s.spare (vec_len s.events) (vec_capacity s.events) × HasRoom s.spare (vec_len s.channels) (vec_capacity s.channels) };
+    ghost invariant = { λ s. IsKept s.script (reverse s.items.items) s.clock s.told s.waits s.started s.events.items
+        × AreChannels s.script (reverse s.items.items) s.started s.channels.items
+        × HasRoom s.spare (vec_len s.items) (vec_capacity s.items)
+        × HasRoom s.spare (vec_len s.events) (vec_capacity s.events)
+        × HasRoom s.spare (vec_len s.channels) (vec_capacity s.channels) };
 }
 
 impl ScriptSockets {
@@ -76,7 +88,8 @@ impl ScriptSockets {
         ensures meaning { IsMeaning (λ s. s.lines) (script_of text.now) result }
         ensures first { IfOk result (λ s. s ≡ at_first s.lines) }
         ensures found { IfOk result (λ s. IsScriptOf s.lines text.now) }
-        ensures only { (lines : List Line) → IsScriptOf lines text.now → (number : ℕ) → result ≡ Err (error.Line number) → ⊥ }
+        ensures only { (lines : List Line) → IsScriptOf lines text.now
+            → (number : ℕ) → result ≡ Err (error.Line number) → ⊥ }
     {
         ScriptSockets::make(alloc, text)
     }
@@ -148,7 +161,8 @@ impl ScriptSockets {
     fn wait_answer(&self, until: u64) -> WaitAnswer
         ensures answer { result ≡ answers.wait_answer self.now.lines self.now.clock self.now.trace until }
         ensures next { IsNextMoment (net_of self.now) result.at }
-        ensures ends { (after : Net) → after.faults ≡ count_after result.how self.now.faults → MayEnd result.how until result.at (net_of self.now) after }
+        ensures ends { (after : Net) → after.faults ≡ count_after result.how self.now.faults
+            → MayEnd result.how until result.at (net_of self.now) after }
         ensures names { (s : ℕ) → has (named_by_end result.how) s ≡ true → has (named self.now.trace) s ≡ true }
     {
         let _ = &self.script;
@@ -360,9 +374,11 @@ fn channel_at(channels: &Vec<Channel>, place: usize) -> &Channel
 
 fn room_at(channels: &mut Vec<Channel>, place: usize, bytes: usize) -> Result<(), NoMemory>
     requires { place < vec_len channels.old }
-    ensures ok { OnOk result ((c : Channel) → slice_get channels.old.items place ≡ Some c → channels.new.items ≡ slice_set channels.old.items place (record c { room = max c.room bytes })) }
+    ensures ok { OnOk result ((c : Channel) → slice_get channels.old.items place ≡ Some c
+        → channels.new.items ≡ slice_set channels.old.items place (record c { room = max c.room bytes })) }
     ensures err { OnErr result (channels.new.items ≡ channels.old.items) }
-    ensures kept { IsAsRoomy (vec_len channels.old) (vec_capacity channels.old) (vec_len channels.new) (vec_capacity channels.new) }
+    ensures kept { IsAsRoomy (vec_len channels.old) (vec_capacity channels.old)
+        (vec_len channels.new) (vec_capacity channels.new) }
 {
     channels[place].make_room(bytes)
 }
@@ -370,8 +386,10 @@ fn room_at(channels: &mut Vec<Channel>, place: usize, bytes: usize) -> Result<()
 fn sent_at(channels: &mut Vec<Channel>, place: usize, bytes: &[u8], at: u64)
     requires place { place < vec_len channels.old }
     requires room { (c : Channel) → slice_get channels.old.items place ≡ Some c → IsSendable c (length bytes.now) }
-    ensures set { (c : Channel) → slice_get channels.old.items place ≡ Some c → channels.new.items ≡ slice_set channels.old.items place (sent_in c bytes.now at) }
-    ensures kept { IsAsRoomy (vec_len channels.old) (vec_capacity channels.old) (vec_len channels.new) (vec_capacity channels.new) }
+    ensures set { (c : Channel) → slice_get channels.old.items place ≡ Some c
+        → channels.new.items ≡ slice_set channels.old.items place (sent_in c bytes.now at) }
+    ensures kept { IsAsRoomy (vec_len channels.old) (vec_capacity channels.old)
+        (vec_len channels.new) (vec_capacity channels.new) }
 {
     channels[place].note_sent(bytes, at);
 }
@@ -379,8 +397,10 @@ fn sent_at(channels: &mut Vec<Channel>, place: usize, bytes: &[u8], at: u64)
 fn read_at(channels: &mut Vec<Channel>, place: usize, count: usize)
     requires place { place < vec_len channels.old }
     requires fits { (c : Channel) → slice_get channels.old.items place ≡ Some c → c.read + count < 2 ^ 64 }
-    ensures set { (c : Channel) → slice_get channels.old.items place ≡ Some c → channels.new.items ≡ slice_set channels.old.items place (read_in c count) }
-    ensures kept { IsAsRoomy (vec_len channels.old) (vec_capacity channels.old) (vec_len channels.new) (vec_capacity channels.new) }
+    ensures set { (c : Channel) → slice_get channels.old.items place ≡ Some c
+        → channels.new.items ≡ slice_set channels.old.items place (read_in c count) }
+    ensures kept { IsAsRoomy (vec_len channels.old) (vec_capacity channels.old)
+        (vec_len channels.new) (vec_capacity channels.new) }
 {
     channels[place].note_read(count);
 }
@@ -397,7 +417,8 @@ impl ScriptSockets {
     // Makes room on the channel of a socket. Without memory nothing is changed.
     fn make_room_at(&mut self, socket: u32, bytes: usize) -> Result<(), NoMemory>
         requires { has (named self.old.trace) socket ≡ true }
-        ensures ok { OnOk result ((c : Channel) → slice_get self.old.channels socket ≡ Some c → self.new ≡ with_channel self.old socket (record c { room = max c.room bytes })) }
+        ensures ok { OnOk result ((c : Channel) → slice_get self.old.channels socket ≡ Some c
+            → self.new ≡ with_channel self.old socket (record c { room = max c.room bytes })) }
         ensures err { OnErr result (self.new ≡ self.old) }
     {
         room_at(&mut self.channels, socket as usize, bytes)
@@ -408,7 +429,8 @@ impl ScriptSockets {
         requires named { has (named self.old.trace) socket ≡ true }
         requires room { (c : Channel) → slice_get self.old.channels socket ≡ Some c → IsSendable c (length bytes.now) }
         requires fits { at < 2 ^ 63 }
-        ensures { (c : Channel) → slice_get self.old.channels socket ≡ Some c → self.new ≡ at_time (with_channel self.old socket (sent_in c bytes.now at)) at }
+        ensures { (c : Channel) → slice_get self.old.channels socket ≡ Some c
+            → self.new ≡ at_time (with_channel self.old socket (sent_in c bytes.now at)) at }
     {
         self.clock = at;
         self.told = at;
@@ -418,9 +440,11 @@ impl ScriptSockets {
     // Notes that so many bytes or datagrams were read on a socket at a time.
     fn note_read(&mut self, socket: u32, count: usize, at: u64)
         requires named { has (named self.old.trace) socket ≡ true }
-        requires within { (c : Channel) → slice_get self.old.channels socket ≡ Some c → IsReadable self.old.lines c count }
+        requires within { (c : Channel) → slice_get self.old.channels socket ≡ Some c
+            → IsReadable self.old.lines c count }
         requires fits { at < 2 ^ 63 }
-        ensures { (c : Channel) → slice_get self.old.channels socket ≡ Some c → self.new ≡ at_time (with_channel self.old socket (read_in c count)) at }
+        ensures { (c : Channel) → slice_get self.old.channels socket ≡ Some c
+            → self.new ≡ at_time (with_channel self.old socket (read_in c count)) at }
     {
         self.clock = at;
         self.told = at;
@@ -431,9 +455,11 @@ impl ScriptSockets {
     fn note_send(&mut self, socket: u32, bytes: &[u8], until: u64, step: SendStep)
         requires room { 1 ≤ self.old.spare }
         requires named { has (named self.old.trace) socket ≡ true }
-        requires sendable { (c : Channel) → slice_get self.old.channels socket ≡ Some c → IsSendable c (length bytes.now) }
+        requires sendable { (c : Channel) → slice_get self.old.channels socket ≡ Some c
+            → IsSendable c (length bytes.now) }
         requires step { IsSendStep step (carries_stream self.old.trace socket) (length bytes.now) until self.old.told }
-        ensures { (c : Channel) → slice_get self.old.channels socket ≡ Some c → self.new ≡ after_send_by self.old socket c bytes.now until step.clock step.answer }
+        ensures { (c : Channel) → slice_get self.old.channels socket ≡ Some c
+            → self.new ≡ after_send_by self.old socket c bytes.now until step.clock step.answer }
     {
         match step.answer {
             SendAnswer::Sent { count, at } => self.note_sent(socket, &bytes[..count], at),
@@ -466,9 +492,11 @@ impl ScriptSockets {
     fn note_receive(&mut self, socket: u32, until: u64, clock: u64, answer: RecvAnswer)
         requires room { 1 ≤ self.old.spare }
         requires named { has (named self.old.trace) socket ≡ true }
-        requires readable { (c : Channel) → slice_get self.old.channels socket ≡ Some c → IsReadable self.old.lines c (read_by c.stream answer) }
+        requires readable { (c : Channel) → slice_get self.old.channels socket ≡ Some c
+            → IsReadable self.old.lines c (read_by c.stream answer) }
         requires step { IsReceiveStep answer clock until self.old.told }
-        ensures { (c : Channel) → slice_get self.old.channels socket ≡ Some c → self.new ≡ after_receive_by self.old socket c until clock answer }
+        ensures { (c : Channel) → slice_get self.old.channels socket ≡ Some c
+            → self.new ≡ after_receive_by self.old socket c until clock answer }
     {
         match answer {
             RecvAnswer::Got { count, at } => {
@@ -518,7 +546,8 @@ impl ScriptSockets {
         requires named { has (named self.now.trace) socket ≡ true }
         requires some { 1 ≤ count }
         requires until { until < 2 ^ 63 }
-        ensures answer { result ≡ data_answers.send_step self.now.lines (link_at self.now socket) self.now.clock count until }
+        ensures answer { result ≡
+            data_answers.send_step self.now.lines (link_at self.now socket) self.now.clock count until }
         ensures may { IsSendStep result (carries_stream self.now.trace socket) count until self.now.told }
     {
         let channel = channel_at(&self.channels, socket as usize);
@@ -530,7 +559,8 @@ impl ScriptSockets {
         requires named { has (named self.now.trace) socket ≡ true }
         requires until { until < 2 ^ 63 }
         requires room { carries_stream self.now.trace socket ≡ false → 65535 ≤ length out.old }
-        ensures answer { received result.0 out.new result.1 ≡ data_answers.receive_step self.now.lines (link_at self.now socket) self.now.clock (length out.old) until }
+        ensures answer { received result.0 out.new result.1 ≡
+            data_answers.receive_step self.now.lines (link_at self.now socket) self.now.clock (length out.old) until }
         ensures facts { ReceivesOn self.now socket (length out.old) until (received result.0 out.new result.1) }
         ensures length { length out.new ≡ length out.old }
     {

@@ -1,5 +1,5 @@
 // What a send comes to.
-ghost use Rattle.std.specs.Prelude.{◌≡◌, ◌<◌, ◌≤◌, ◌^◌};
+ghost use Rattle.std.specs.Prelude.{◌≡◌, ◌<◌, ◌^◌};
 ghost use Rattle.taps_script.specs.Channels.{link_of};
 ghost use Rattle.taps_script.specs.DataAnswers as answers;
 

@@ -1,15 +1,13 @@
 -- Items that do not name a socket leave all that the trace tells of it.
-use Rattle.std.proofs.Common.{◌≡◌, ℕ, Bool, true, false, not, ◌&&◌, ◌||◌, List, [], ◌∷◌, ◌++◌, refl, ap, sym, ◌∙◌}
+use Rattle.std.proofs.Common.{◌≡◌, ℕ, Bool, true, false, ◌||◌, List, [], ◌∷◌, ◌++◌, refl, ◌∙◌}
 use Rattle.std.specs.Prelude.{◌==◌}
-use Rattle.std.proofs.lemmas.Bool.{eqb-true}
-use Rattle.std.proofs.lemmas.Map.Views.{any-filter_same}
 use Rattle.std.proofs.lemmas.List.Folds.{list_any-append}
 use Rattle.taps_socket.specs.declared.item.How.TheVariants as how
 use Rattle.taps_socket.specs.declared.item.Item.{Item}
 use Rattle.taps_socket.specs.declared.item.Item.TheVariants as item
 use Rattle.taps_socket.specs.RaceSockets.{has, completed, broke, closed}
-use Rattle.taps_socket.specs.LiveSockets.{given, live_sockets, named, named_by}
-use Rattle.taps_socket.specs.Sides.{listeners, accepted, shut, ended, failed, target_of, is_connected, may_send, may_receive}
+use Rattle.taps_socket.specs.LiveSockets.{given, named, named_by}
+use Rattle.taps_socket.specs.Sides.{listeners, accepted, shut, ended, failed, target_of}
 
 -- the lists and the target of one trace are those of the other at a socket
 pub record IsAlike (before after : List Item) (s : ℕ) : Type 0 where
@@ -92,19 +90,3 @@ unnamed [] t s h = same t s
 unnamed (i ∷ r) t s h =
     let (here, there) = not_either (has (named_by i) s) (has (named r) s) (rw list_any-append at h) in
     alike_on t (r ++ t) (i ∷ (r ++ t)) s (unnamed r t s there) (unnamed_by i (r ++ t) s here)
-
--- so it is live, may send and may receive in the one as in the other
-in_live : (t : List Item) (s : ℕ) → has (live_sockets t) s ≡ (not (has (closed t) s) && has (given t) s)
-in_live t s = any-filter_same (λ x. x == s) (λ x. not (has (closed t) x)) (not (has (closed t) s)) (λ k e. ap (λ v. not (has (closed t) v)) (eqb-true k s e)) (given t)
-
-pub same_live : (b a : List Item) (s : ℕ) → IsAlike b a s → has (live_sockets a) s ≡ has (live_sockets b) s
-same_live b a s h = in_live a s ∙ (rw (h.closed, h.given) refl ∙ sym (in_live b s))
-
-same_connected : (b a : List Item) (s : ℕ) → IsAlike b a s → is_connected a s ≡ is_connected b s
-same_connected b a s h = rw (same_live b a s h, h.completed, h.accepted, h.failed) refl
-
-pub same_send : (b a : List Item) (s : ℕ) → IsAlike b a s → may_send a s ≡ may_send b s
-same_send b a s h = rw (same_connected b a s h, h.shut) refl
-
-pub same_receive : (b a : List Item) (s : ℕ) → IsAlike b a s → may_receive a s ≡ may_receive b s
-same_receive b a s h = rw (same_connected b a s h, h.ended) refl

@@ -1,6 +1,6 @@
 -- The definitions judge the worked histories as they are to be judged.
 use Rattle.std.proofs.Common.{◌≡◌, ◌<◌, ◌≤◌, ℕ, Bool, rules, arith, true, false, ◌||◌, List, [], ◌∷◌, refl, sym, ◌∙◌}
-use Rattle.std.specs.Prelude.{None, Some, ◌==◌}
+use Rattle.std.specs.Prelude.{Some, ◌==◌}
 use Rattle.std.proofs.lemmas.Bool.{eqb-true}
 use Rattle.taps_endpoint.specs.declared.address.Address.{Address}
 use Rattle.taps_socket.specs.RaceSockets.{has}

@@ -15,7 +15,9 @@ use Rattle.taps_socket.specs.declared.answers.SendAnswer.TheVariants as send
 use Rattle.taps_socket.specs.declared.answers.RecvAnswer.{RecvAnswer}
 use Rattle.taps_socket.specs.declared.answers.RecvAnswer.TheVariants as recv
 
--- the time was asked; a target was connected to, for a leaf; a wait up to a time; a close; a target was listened on; an accept up to a time; a send of bytes up to a time; the end of the sending side; and a receive of at most so many bytes up to a time, with the bytes that came
+-- the time was asked; a target was connected to, for a leaf; a wait up to a time; a close; a target was listened on; an
+-- accept up to a time; a send of bytes up to a time; the end of the sending side; and a receive of at most so many
+-- bytes up to a time, with the bytes that came
 pub data Call : Type 0 where
   begins : (at : ℕ) → Call
   starts : (leaf : ℕ) → (target : Target) → (answer : StartAnswer) → Call
@@ -39,6 +41,7 @@ pub data Request : Type 0 where
   to_shut : (socket : ℕ) → Request
   to_receive : (socket : ℕ) → (most : ℕ) → (until : ℕ) → Request
 
+-- what a call asked for
 abbrev pub request_of : Call → Request
 request_of (begins at) = to_begin
 request_of (starts leaf target answer) = to_start leaf target
@@ -55,6 +58,7 @@ abbrev pub started_item : ℕ → Target → StartAnswer → Item
 started_item leaf target (start.Started socket at) = item.Started leaf target socket at
 started_item leaf target (start.Refused cause at) = item.Refused leaf target cause at
 
+-- the time that an answer to a start reports
 abbrev pub started_at : StartAnswer → ℕ
 started_at (start.Started socket at) = at
 started_at (start.Refused cause at) = at
@@ -64,6 +68,7 @@ abbrev pub listened_item : Target → ListenAnswer → Item
 listened_item target (listen.Listening socket at) = item.Listening target socket at
 listened_item target (listen.Refused cause at) = item.NotListening target cause at
 
+-- the time that an answer to a listen reports
 abbrev pub listened_at : ListenAnswer → ℕ
 listened_at (listen.Listening socket at) = at
 listened_at (listen.Refused cause at) = at
@@ -74,6 +79,7 @@ accepted_items listener (accept.Accepted socket at) = item.Accepted listener soc
 accepted_items listener (accept.Timed at) = []
 accepted_items listener (accept.Faulted at) = item.Faulted at ∷ []
 
+-- the time that an answer to an accept reports
 abbrev pub accepted_at : AcceptAnswer → ℕ
 accepted_at (accept.Accepted socket at) = at
 accepted_at (accept.Timed at) = at
@@ -85,6 +91,7 @@ sent_items socket (send.Sent count at) = []
 sent_items socket (send.Timed at) = []
 sent_items socket (send.Failed cause) = item.DataFailed socket true cause ∷ []
 
+-- the bytes that an answer to a send says were taken
 abbrev pub taken_of : List ℕ → SendAnswer → List ℕ
 taken_of bytes (send.Sent count at) = take count bytes
 taken_of bytes (send.Timed at) = []
@@ -97,6 +104,7 @@ received_items socket recv.End = item.Ended socket ∷ []
 received_items socket (recv.Timed at) = []
 received_items socket (recv.Failed cause) = item.DataFailed socket false cause ∷ []
 
+-- the bytes that an answer to a receive says are at the buffer's beginning
 abbrev pub came_in : List ℕ → RecvAnswer → List ℕ
 came_in out (recv.Got count at) = take count out
 came_in out recv.End = []
@@ -115,6 +123,7 @@ items_by (sends socket bytes until answer) = sent_items socket answer
 items_by (shuts socket) = item.Shut socket ∷ []
 items_by (receives socket most until came answer) = received_items socket answer
 
+-- the items that calls add, newest first
 abbrev pub items_of : List Call → List Item
 items_of [] = []
 items_of (call ∷ earlier) = items_by call ++ items_of earlier
@@ -124,7 +133,8 @@ abbrev pub AddEach : List Call → List Item → Type 0
 AddEach calls items = map items_by calls ≡ map (λ i. i ∷ []) items
 
 -- calls led from sockets to sockets, each of which added one of the items that came to the trace
-pub record HasAdded {N : Type 0} (Becomes : N → List Call → N → Type 0) (before after : N) (trace trace' : List Item) : Type 0 where
+pub record HasAdded {N : Type 0} (Becomes : N → List Call → N → Type 0)
+    (before after : N) (trace trace' : List Item) : Type 0 where
   pub calls : List Call
   pub items : List Item
   pub added : trace' ≡ items ++ trace

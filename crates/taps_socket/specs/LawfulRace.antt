@@ -43,7 +43,8 @@ pub record MayWait (rules : Rules) (race : Standing) (until : ℕ) : Type 0 wher
   pub none_broken : race.broken ≡ []
   pub end : until ≡ wait_end rules race
 
--- a close of this socket may come: while the race is not over it is open and broke, and then it is the smallest open one but the winner's
+-- a close of this socket may come: while the race is not over it is open and broke, and then it is the smallest open
+-- one but the winner's
 abbrev pub MayClose : Option RaceAnswer → Standing → ℕ → Type 0
 MayClose None race socket = has race.broken socket ≡ true
 MayClose (Some answer) race socket = reduce min (losers race) ≡ Some socket
@@ -83,7 +84,8 @@ pub record IsOver (rules : Rules) (race : Standing) (answer : RaceAnswer) : Type
   pub winner_alone : WinnerAlone answer race.still_open
 
 -- a race that is lawful with its answer
-pub record IsLawfulRace (rules : Rules) (first : ℕ) (targets : List Target) (trace : List Item) (answer : RaceAnswer) : Type 0 where
+pub record IsLawfulRace (rules : Rules) (first : ℕ) (targets : List Target)
+    (trace : List Item) (answer : RaceAnswer) : Type 0 where
   pub race : IsUnfinishedRace rules first trace
   pub targets_in_order : Each (HasTarget targets) trace
   pub over : IsOver rules (standing trace) answer

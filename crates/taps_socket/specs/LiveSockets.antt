@@ -1,4 +1,5 @@
--- What a trace tells of the sockets in it, be they of one race, of several or of none. A trace stands with its newest item first.
+-- What a trace tells of the sockets in it, be they of one race, of several or of none. A trace stands with its newest
+-- item first.
 use Rattle.std.specs.Prelude.{◌≡◌, ◌<◌, ℕ, true, not, List, [], ◌∷◌, ◌++◌, filter}
 use Rattle.taps_socket.specs.declared.item.How.{How}
 use Rattle.taps_socket.specs.declared.item.How.TheVariants.{Reached, Completed, Broke, Faulted}

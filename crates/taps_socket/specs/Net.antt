@@ -24,14 +24,17 @@ use Rattle.taps_socket.specs.LiveSockets.{IsNewSocket}
 use Rattle.taps_socket.specs.Sides.{carries_stream}
 use Rattle.taps_socket.specs.Calls.{Call, begins, starts, waits, closes, listens, accepts, sends, shuts, receives, started_item, started_at, listened_item, listened_at, taken_of}
 
--- the traffic of one socket: its room for bytes to be sent; the time of its last Sent; and, where observable, the pieces that were written on it and read from it, oldest first: over datagrams one for each, over a stream one of all bytes
+-- the traffic of one socket: its room for bytes to be sent; the time of its last Sent; and, where observable, the
+-- pieces that were written on it and read from it, oldest first: over datagrams one for each, over a stream one of all
+-- bytes
 pub record Traffic : Type 0 where
   pub room : ℕ
   pub last_sent : Option ℕ
   pub written : Option (List (List ℕ))
   pub read : Option (List (List ℕ))
 
--- the items so far, newest first; the last reported time; how many items can be added without memory; how often a call was faulted; the traffic of each socket; how often a call was timed, and the last call that was
+-- the items so far, newest first; the last reported time; how many items can be added without memory; how often a call
+-- was faulted; the traffic of each socket; how often a call was timed, and the last call that was
 pub record Net : Type 0 where
   pub trace : List Item
   pub told : ℕ
@@ -73,30 +76,40 @@ with_piece false piece pieces = pieces ++ piece ∷ []
 -- the traffic of a socket after these bytes were taken at a time, and after these came
 abbrev pub sent_on : Bool → List ℕ → ℕ → Traffic → Traffic
 sent_on stream bytes at traffic =
-    record traffic { room = traffic.room - length bytes; last_sent = Some at; written = option_map (with_piece stream bytes) traffic.written }
+    record traffic {
+      room = traffic.room - length bytes;
+      last_sent = Some at;
+      written = option_map (with_piece stream bytes) traffic.written;
+    }
 
+-- traffic to which these bytes were read
 abbrev pub received_on : Bool → List ℕ → Traffic → Traffic
 received_on stream bytes traffic = record traffic { read = option_map (with_piece stream bytes) traffic.read }
 
 -- after an accept
 abbrev pub after_accept : ℕ → ℕ → AcceptAnswer → Net → Net
 after_accept listener until (accept.Accepted socket at) net = with_item net (item.Accepted listener socket at) at
-after_accept listener until (accept.Timed at) net = with_timed net (record { kind = kind.Accept; socket = listener; until = until; at = at })
+after_accept listener until (accept.Timed at) net =
+    with_timed net (record { kind = kind.Accept; socket = listener; until = until; at = at })
 after_accept listener until (accept.Faulted at) net = with_item net (item.Faulted at) at
 
 -- after a send
 abbrev pub after_send : ℕ → List ℕ → ℕ → SendAnswer → Net → Net
 after_send socket bytes until (send.Sent count at) net =
-    record (with_traffic net socket (sent_on (carries_stream net.trace socket) (taken_of bytes (send.Sent count at)) at (net.traffic socket))) { told = at }
-after_send socket bytes until (send.Timed at) net = with_timed net (record { kind = kind.Send; socket = socket; until = until; at = at })
+    record (with_traffic net socket (sent_on (carries_stream net.trace socket)
+    (taken_of bytes (send.Sent count at)) at (net.traffic socket))) { told = at }
+after_send socket bytes until (send.Timed at) net =
+    with_timed net (record { kind = kind.Send; socket = socket; until = until; at = at })
 after_send socket bytes until (send.Failed cause) net = with_item net (item.DataFailed socket true cause) net.told
 
 -- after a receive by which these bytes came
 abbrev pub after_receive : ℕ → ℕ → List ℕ → RecvAnswer → Net → Net
 after_receive socket until came (recv.Got count at) net =
-    record (with_traffic net socket (received_on (carries_stream net.trace socket) came (net.traffic socket))) { told = at }
+    record (with_traffic net socket
+    (received_on (carries_stream net.trace socket) came (net.traffic socket))) { told = at }
 after_receive socket until came recv.End net = with_item net (item.Ended socket) net.told
-after_receive socket until came (recv.Timed at) net = with_timed net (record { kind = kind.Recv; socket = socket; until = until; at = at })
+after_receive socket until came (recv.Timed at) net =
+    with_timed net (record { kind = kind.Recv; socket = socket; until = until; at = at })
 after_receive socket until came (recv.Failed cause) net = with_item net (item.DataFailed socket false cause) net.told
 
 -- after any call, but for the count of faults, which a faulted one raises
@@ -116,6 +129,7 @@ pub record IsLater (told at : ℕ) : Type 0 where
   pub later : told ≤ at
   pub fits : at < 2 ^ 63
 
+-- a time that may be reported next
 abbrev pub IsNextMoment : Net → ℕ → Type 0
 IsNextMoment net at = IsLater net.told at
 
@@ -141,11 +155,13 @@ abbrev pub GivesNewSocket : StartAnswer → Net → Type 0
 GivesNewSocket (start.Started socket at) net = IsGiven socket net
 GivesNewSocket (start.Refused cause at) net = Unit {0}
 
+-- where it listens, its socket is given
 abbrev pub GivesListener : ListenAnswer → Net → Type 0
 GivesListener (listen.Listening socket at) net = IsGiven socket net
 GivesListener (listen.Refused cause at) net = Unit {0}
 
--- a wait is reached not before its time, which is below 2^63; it completes or breaks a socket that is pending; and it is faulted where the count rose
+-- a wait is reached not before its time, which is below 2^63; it completes or breaks a socket that is pending; and it
+-- is faulted where the count rose
 abbrev pub MayEnd : How → ℕ → ℕ → Net → Net → Type 0
 MayEnd Reached until at before after = (until ≤ at) × (until < 2 ^ 63)
 MayEnd (Completed socket) until at before after = has (pending_sockets before.trace) socket ≡ true
@@ -165,7 +181,8 @@ pub record IsCount (count most : ℕ) : Type 0 where
 
 -- a send of so many bytes takes some of them, over datagrams all; and it is timed not before its time
 abbrev pub IsSendAnswer : SendAnswer → Bool → ℕ → ℕ → ℕ → Type 0
-IsSendAnswer (send.Sent count at) stream most until told = IsCount count most × (stream ≡ false → count ≡ most) × IsLater told at
+IsSendAnswer (send.Sent count at) stream most until told =
+    IsCount count most × (stream ≡ false → count ≡ most) × IsLater told at
 IsSendAnswer (send.Timed at) stream most until told = (until ≤ at) × IsLater told at
 IsSendAnswer (send.Failed cause) stream most until told = Unit {0}
 
@@ -176,7 +193,8 @@ IsReceiveAnswer recv.End stream most until told = stream ≡ true
 IsReceiveAnswer (recv.Timed at) stream most until told = (until ≤ at) × IsLater told at
 IsReceiveAnswer (recv.Failed cause) stream most until told = Unit {0}
 
--- but for the items, the last reported time, spare and the faults nothing changed: no traffic of any socket, and no timed call was made
+-- but for the items, the last reported time, spare and the faults nothing changed: no traffic of any socket, and no
+-- timed call was made
 abbrev pub PreservesTraffic : Net → Net → Type 0
 PreservesTraffic before after =
     after ≡ record before { trace = after.trace; told = after.told; spare = after.spare; faults = after.faults }

@@ -1,4 +1,5 @@
--- What a race's trace tells of its moments and attempts (RFC 9623 section 4.3). A trace stands with its newest item first.
+-- What a race's trace tells of its moments and attempts (RFC 9623 section 4.3). A trace stands with its newest item
+-- first.
 use Rattle.std.specs.Prelude.{◌≡◌, ℕ, Bool, true, false, max, List, [], ◌∷◌, ◌++◌, length, Option, None, Some}
 use Rattle.std.specs.List.{list_any}
 use Rattle.taps_socket.specs.declared.item.How.TheVariants.{Faulted}

@@ -1,4 +1,5 @@
--- Which sockets may send, receive or listen, and where each leads, as the items tell. A trace stands with its newest item first.
+-- Which sockets may send, receive or listen, and where each leads, as the items tell. A trace stands with its newest
+-- item first.
 use Rattle.std.specs.Prelude.{ℕ, Bool, true, not, ◌&&◌, ◌||◌, ◌==◌, if◌then◌else◌, List, [], ◌∷◌, Option, None, Some}
 use Rattle.std.specs.Option.{option_map_or}
 use Rattle.taps_stack.specs.declared.target.Target.{Target}
@@ -38,12 +39,14 @@ failed [] = []
 failed (DataFailed socket sending cause ∷ earlier) = socket ∷ failed earlier
 failed (_ ∷ earlier) = failed earlier
 
--- the target of a socket: that for which it was started, that on which it listens, and of an accepted one that of its listener
+-- the target of a socket: that for which it was started, that on which it listens, and of an accepted one that of its
+-- listener
 abbrev pub target_of : List Item → ℕ → Option Target
 target_of [] s = None
 target_of (Started leaf target socket at ∷ earlier) s = if socket == s then Some target else target_of earlier s
 target_of (Listening target socket at ∷ earlier) s = if socket == s then Some target else target_of earlier s
-target_of (Accepted listener socket at ∷ earlier) s = if socket == s then target_of earlier listener else target_of earlier s
+target_of (Accepted listener socket at ∷ earlier) s =
+    if socket == s then target_of earlier listener else target_of earlier s
 target_of (_ ∷ earlier) s = target_of earlier s
 
 -- the socket carries a stream of bytes, and not datagrams
@@ -56,7 +59,8 @@ may_accept trace s = has (live_sockets trace) s && has (listeners trace) s
 
 -- the socket is live and connected, and no send or receive on it failed
 abbrev pub is_connected : List Item → ℕ → Bool
-is_connected trace s = has (live_sockets trace) s && (has (completed trace) s || has (accepted trace) s) && not (has (failed trace) s)
+is_connected trace s =
+    has (live_sockets trace) s && (has (completed trace) s || has (accepted trace) s) && not (has (failed trace) s)
 
 -- and its sending side was not ended
 abbrev pub may_send : List Item → ℕ → Bool

@@ -6,7 +6,8 @@ use Rattle.taps_socket.specs.RaceTrace.{begun, last_moment, attempts, last_attem
 use Rattle.taps_socket.specs.RaceSockets as sockets
 use Rattle.taps_socket.specs.Winner as winner
 
--- the moments of its beginning, of its newest item and of its newest attempt; the number of attempts; whether a wait was faulted; the answer of the first completion; and its sockets
+-- the moments of its beginning, of its newest item and of its newest attempt; the number of attempts; whether a wait
+-- was faulted; the answer of the first completion; and its sockets
 pub record Standing : Type 0 where
   pub begun : ℕ
   pub last : ℕ

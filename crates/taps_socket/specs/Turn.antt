@@ -19,7 +19,8 @@ gap_end rules race = gap_after (slice_get rules.gaps race.attempts) race.last_at
 abbrev pub is_due : Rules → Standing → Bool
 is_due rules race =
     nat_lt race.attempts (length rules.gaps)
-    && ((race.attempts == 0) || (length race.pending == 0) || option_map_or (λ end. nat_le end race.last) (gap_end rules race) false)
+    && ((race.attempts == 0) || (length race.pending == 0)
+    || option_map_or (λ end. nat_le end race.last) (gap_end rules race) false)
 
 -- the lesser of a moment and one that may be missing
 abbrev pub sooner : ℕ → Option ℕ → ℕ
@@ -29,6 +30,7 @@ sooner moment other = option_map_or (λ end. min moment end) other moment
 abbrev pub cancel_end : Rules → Standing → Option ℕ
 cancel_end rules race = option_map_or (λ cancel. Some (race.begun + cancel)) rules.cancel None
 
--- the moment up to which a wait goes: the least of the race's end, the application's end and the end of the next leaf's gap
+-- the moment up to which a wait goes: the least of the race's end, the application's end and the end of the next leaf's
+-- gap
 abbrev pub wait_end : Rules → Standing → ℕ
 wait_end rules race = sooner (sooner (race.begun + rules.timeout) (cancel_end rules race)) (gap_end rules race)

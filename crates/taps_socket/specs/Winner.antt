@@ -21,7 +21,8 @@ place_of s (o ∷ rest) = if is_socket s o then 0 else place_of s rest + 1
 -- the answer of the first completion: its leaf's place, its socket and its moment
 abbrev pub ready : List Item → Option RaceAnswer
 ready [] = None
-ready (Waited until at (Completed socket) ∷ earlier) = option_or (ready earlier) (Some (Ready (place_of socket (tries earlier)) socket at))
+ready (Waited until at (Completed socket) ∷ earlier) =
+    option_or (ready earlier) (Some (Ready (place_of socket (tries earlier)) socket at))
 ready (_ ∷ earlier) = ready earlier
 
 -- the socket is that of this answer

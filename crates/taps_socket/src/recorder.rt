@@ -1,4 +1,4 @@
-ghost use Rattle.std.specs.Prelude.{◌≡◌, ◌≤◌, ◌+◌, [], reverse};
+ghost use Rattle.std.specs.Prelude.{◌≡◌, ◌≤◌, [], reverse};
 ghost use Rattle.taps_socket.specs.Calls.{started_item, started_at, listened_item, listened_at};
 ghost use Rattle.taps_socket.specs.Net.{with_spare};
 ghost use Rattle.taps_socket.specs.Recorded.{IsLastReported, Records};

@@ -108,7 +108,8 @@ pub trait Sockets {
         requires datagram { carries_stream (net self.old).trace socket ≡ false → length bytes.now ≤ 65507 }
         requires until { until < 2 ^ 63 }
         ensures net { net self.new ≡ after_send socket bytes.now until result (net self.old) }
-        ensures answer { IsSendAnswer result (carries_stream (net self.old).trace socket) (length bytes.now) until (net self.old).told }
+        ensures answer { IsSendAnswer result (carries_stream (net self.old).trace socket)
+            (length bytes.now) until (net self.old).told }
         ensures becomes { Becomes self.old (sends socket bytes.now until result ∷ []) self.new };
 
     /// Ends the sending side of a socket that carries a stream.
@@ -128,8 +129,10 @@ pub trait Sockets {
         requires until { until < 2 ^ 63 }
         ensures length { length out.new ≡ length out.old }
         ensures net { net self.new ≡ after_receive socket until (came_in out.new result) result (net self.old) }
-        ensures answer { IsReceiveAnswer result (carries_stream (net self.old).trace socket) (length out.old) until (net self.old).told }
-        ensures becomes { Becomes self.old (receives socket (length out.old) until (came_in out.new result) result ∷ []) self.new };
+        ensures answer { IsReceiveAnswer result (carries_stream (net self.old).trace socket)
+            (length out.old) until (net self.old).told }
+        ensures becomes { Becomes self.old
+            (receives socket (length out.old) until (came_in out.new result) result ∷ []) self.new };
 
     ghost becomes_itself: { (s : Self) → Becomes s [] s };
 
@@ -147,7 +150,8 @@ impl<N: Sockets> Sockets for &mut N {
 
     ghost becomes_itself = { λ s. (refl, N.becomes_itself s.now) };
 
-    ghost becomes_on = { λ a b c g h first then. (then.0 ∙ first.0, N.becomes_on a.now b.now c.now g h first.1 then.1) };
+    ghost becomes_on = { λ a b c g h first then.
+        (then.0 ∙ first.0, N.becomes_on a.now b.now c.now g h first.1 then.1) };
 
     ghost shows = { λ a b calls h. N.shows a.now b.now calls h.1 };
 

@@ -17,6 +17,7 @@ stack_place Tcp = 0
 stack_place Unix = 1
 stack_place Udp = 2
 
+-- what a stream of bytes offers
 abbrev pub stream_offers : StackProperty → Bool
 stream_offers Reliability = true
 stream_offers PreserveMsgBoundaries = false
@@ -31,6 +32,7 @@ stream_offers KeepAlive = false
 stream_offers SoftErrorNotify = false
 stream_offers ActiveReadBeforeSend = true
 
+-- what datagrams offer
 abbrev pub datagrams_offer : StackProperty → Bool
 datagrams_offer Reliability = false
 datagrams_offer PreserveMsgBoundaries = true
@@ -45,11 +47,13 @@ datagrams_offer KeepAlive = false
 datagrams_offer SoftErrorNotify = false
 datagrams_offer ActiveReadBeforeSend = false
 
+-- what each stack offers
 abbrev pub offers : Stack → StackProperty → Bool
 offers Tcp property = stream_offers property
 offers Unix property = stream_offers property
 offers Udp property = datagrams_offer property
 
+-- the families of addresses that each stack carries
 abbrev pub carries : Stack → Family → Bool
 carries Tcp family.Inet4 = true
 carries Tcp family.Inet6 = true
@@ -61,6 +65,7 @@ carries Udp family.Inet4 = true
 carries Udp family.Inet6 = true
 carries Udp family.Unix = false
 
+-- the stack carries a stream of bytes
 abbrev pub is_stream : Stack → Bool
 is_stream Tcp = true
 is_stream Unix = true

@@ -18,7 +18,8 @@ is_among names key = list_any (λ name. bytes_eq name key) names
 abbrev pub put_member : List ℕ → Data → Members → Members
 put_member key d no_members = member key d no_members
 put_member key d (member other e ms) =
-    if is_lt (slice_cmp nat_cmp key other) then member key d (member other e ms) else member other e (put_member key d ms)
+    if is_lt (slice_cmp nat_cmp key other) then member key d (member other e ms)
+    else member other e (put_member key d ms)
 
 -- the members with their keys in byte order
 abbrev pub in_byte_order : Members → Members

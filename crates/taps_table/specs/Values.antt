@@ -48,7 +48,8 @@ items_after reads path before (item d ds) =
 abbrev pub array_in : {A : Type 0} → ℕ → (List A → Reader A) → List ℕ → Option Items → Result (ListState A) PreError
 array_in most reads path None = Err (WrongKind path)
 array_in most reads path (Some ds) =
-    if nat_le (count_items ds) most then (items_after reads path [] ds >>= λ items. Ok (filled items)) else Err (TooMany path (count_items ds))
+    if nat_le (count_items ds) most then (items_after reads path [] ds >>= λ items. Ok (filled items))
+    else Err (TooMany path (count_items ds))
 
 -- an array of at most this many items, each read by what stands before it
 unfoldable pub array_of : {A : Type 0} → ℕ → (List A → Reader A) → Reader (ListState A)
@@ -59,7 +60,8 @@ abbrev pub each : {A : Type 0} → Reader A → List A → Reader A
 each reads before = reads
 
 -- the members of a table
-abbrev pub table_in : {A : Type 0} → (List ℕ → Members → Result A PreError) → List ℕ → Option Members → Result A PreError
+abbrev pub table_in : {A : Type 0} → (List ℕ → Members → Result A PreError)
+    → List ℕ → Option Members → Result A PreError
 table_in at path None = Err (WrongKind path)
 table_in at path (Some ms) = at path ms
 

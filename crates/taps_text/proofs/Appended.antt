@@ -1,21 +1,11 @@
 -- What two calls leave of a text, one after the other.
-use Rattle.std.proofs.Common.{◌≡◌, ◌≤◌, ℕ, length, take, List, [], ◌∷◌, ◌++◌, Result, Ok, Err, refl, sym, ◌∙◌, append_assoc}
+use Rattle.std.proofs.Common.{◌≡◌, ◌≤◌, ℕ, length, take, List, [], ◌∷◌, ◌++◌, refl, sym, ◌∙◌, append_assoc}
 use Rattle.std.specs.List.{flat_map}
 use Rattle.std.specs.Fmt.{decimal}
 use Rattle.std.proofs.lemmas.List.{append-nil, take_all}
-use Rattle.taps_text.specs.Appends.{Continues, Appends}
 use Rattle.taps_text.specs.declared.part.Part.{Part}
 use Rattle.taps_text.specs.declared.part.Part.TheVariants.{Words, Number, Hex, Shown, Place}
 use Rattle.taps_text.specs.Parts.{part_text, part_before, parts_text}
-
--- a text that goes on from a longer one goes on from its front
-pub continues_on : (before between after line : List ℕ) → between ≡ before ++ line → Continues between after → Continues before after
-continues_on before between after line is on = record { more = line ++ on.more; is = on.is ∙ rw (is, append_assoc before line on.more) refl }
-
--- two lines, one after the other
-pub appends_on : {A E : Type 0} (result : Result A E) (before between after line next : List ℕ) → between ≡ before ++ line → Appends result between after next → Appends result before after (line ++ next)
-appends_on (Ok a) before between after line next is on = on ∙ rw (is, append_assoc before line next) refl
-appends_on (Err e) before between after line next is on = continues_on before between after line is on
 
 -- a part before the rest of a line
 before_is : (part : Part) (rest : List ℕ) → part_before part rest ≡ part_text part ++ rest

@@ -22,11 +22,13 @@ sent_line member count = codes "sent " ++ (decimal member ++ (codes " " ++ (deci
 
 -- a message that a member heard, or its last part
 unfoldable pub received_line : ℕ → ℕ → List ℕ → List ℕ
-received_line member number body = codes "received " ++ (decimal member ++ (codes " " ++ (decimal number ++ (codes " " ++ (hex_text body ++ codes "\n")))))
+received_line member number body = codes "received "
+    ++ (decimal member ++ (codes " " ++ (decimal number ++ (codes " " ++ (hex_text body ++ codes "\n")))))
 
 -- a part, but the last, of a message that a member heard
 unfoldable pub part_line : ℕ → ℕ → List ℕ → List ℕ
-part_line member number body = codes "part " ++ (decimal member ++ (codes " " ++ (decimal number ++ (codes " " ++ (hex_text body ++ codes "\n")))))
+part_line member number body =
+    codes "part " ++ (decimal member ++ (codes " " ++ (decimal number ++ (codes " " ++ (hex_text body ++ codes "\n")))))
 
 -- a message that was found in a file's bytes
 unfoldable pub message_line : ℕ → List ℕ → List ℕ

@@ -9,7 +9,8 @@ use Rattle.taps_text.specs.ItemLines.{item_lines}
 use Rattle.taps_text.specs.OutcomeLines.{outcome_line}
 use Rattle.taps_text.specs.declared.outcome.Outcome.{Outcome}
 
--- of a ready race the items after it, what its one member sent, which is nothing, and how the session ended; any other answer ends the log
+-- of a ready race the items after it, what its one member sent, which is nothing, and how the session ended; any other
+-- answer ends the log
 abbrev pub exchange_lines : RaceAnswer → List Item → Outcome → List ℕ
 exchange_lines (Ready leaf socket at) after outcome = item_lines after ++ (sent_line 0 0 ++ outcome_line outcome)
 exchange_lines _ after outcome = []

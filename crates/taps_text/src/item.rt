@@ -76,7 +76,8 @@ fn append_last(text: &mut Vec<u8>, words: &[u8], number: u64) -> Result<(), NoMe
 }
 
 fn append_started(text: &mut Vec<u8>, leaf: u32, socket: u32, at: u64) -> Result<(), NoMemory>
-    ensures { Appends result text.old.items text.new.items (codes "start " ++ (decimal leaf ++ (codes " socket " ++ (decimal socket ++ at_moment at)))) }
+    ensures { Appends result text.old.items text.new.items
+        (codes "start " ++ (decimal leaf ++ (codes " socket " ++ (decimal socket ++ at_moment at)))) }
 {
     append_parts(
         text,
@@ -90,7 +91,8 @@ fn append_started(text: &mut Vec<u8>, leaf: u32, socket: u32, at: u64) -> Result
 }
 
 fn append_refused(text: &mut Vec<u8>, leaf: u32, cause: Cause, at: u64) -> Result<(), NoMemory>
-    ensures { Appends result text.old.items text.new.items (codes "start " ++ (decimal leaf ++ (codes " refused " ++ (cause_word cause ++ at_moment at)))) }
+    ensures { Appends result text.old.items text.new.items
+        (codes "start " ++ (decimal leaf ++ (codes " refused " ++ (cause_word cause ++ at_moment at)))) }
 {
     append_parts(
         text,
@@ -153,7 +155,8 @@ fn append_listening(
     address: &Address,
     at: u64,
 ) -> Result<(), NoMemory>
-    ensures { Appends result text.old.items text.new.items (codes "listen " ++ (decimal socket ++ (codes " " ++ (canonical_text address.now ++ at_moment at)))) }
+    ensures { Appends result text.old.items text.new.items
+        (codes "listen " ++ (decimal socket ++ (codes " " ++ (canonical_text address.now ++ at_moment at)))) }
 {
     append_parts(
         text,
@@ -168,7 +171,8 @@ fn append_listening(
 }
 
 fn append_not_listening(text: &mut Vec<u8>, cause: Cause, at: u64) -> Result<(), NoMemory>
-    ensures { Appends result text.old.items text.new.items (codes "listen refused " ++ (cause_word cause ++ at_moment at)) }
+    ensures { Appends result text.old.items text.new.items
+        (codes "listen refused " ++ (cause_word cause ++ at_moment at)) }
 {
     append_parts(
         text,
@@ -182,7 +186,8 @@ fn append_not_listening(text: &mut Vec<u8>, cause: Cause, at: u64) -> Result<(),
 }
 
 fn append_accepted(text: &mut Vec<u8>, socket: u32, listener: u32, at: u64) -> Result<(), NoMemory>
-    ensures { Appends result text.old.items text.new.items (codes "accept " ++ (decimal socket ++ (codes " from " ++ (decimal listener ++ at_moment at)))) }
+    ensures { Appends result text.old.items text.new.items
+        (codes "accept " ++ (decimal socket ++ (codes " from " ++ (decimal listener ++ at_moment at)))) }
 {
     append_parts(
         text,
@@ -196,7 +201,8 @@ fn append_accepted(text: &mut Vec<u8>, socket: u32, listener: u32, at: u64) -> R
 }
 
 fn append_failed(text: &mut Vec<u8>, socket: u32, cause: Cause) -> Result<(), NoMemory>
-    ensures { Appends result text.old.items text.new.items (codes "failed " ++ (decimal socket ++ (codes " " ++ (cause_word cause ++ codes "\n")))) }
+    ensures { Appends result text.old.items text.new.items
+        (codes "failed " ++ (decimal socket ++ (codes " " ++ (cause_word cause ++ codes "\n")))) }
 {
     append_parts(
         text,

@@ -52,7 +52,8 @@ fn append_exchange(
 }
 
 fn append_session(text: &mut Vec<u8>, after: &[Item], outcome: Outcome) -> Result<(), NoMemory>
-    ensures { Appends result text.old.items text.new.items (item_lines after.now ++ (sent_line 0 0 ++ outcome_line outcome)) }
+    ensures { Appends result text.old.items text.new.items
+        (item_lines after.now ++ (sent_line 0 0 ++ outcome_line outcome)) }
 {
     put_items(text, after)?;
     put_sent(text, 0, 0)?;

@@ -12,6 +12,7 @@ use Rattle.taps_timeline.specs.declared.line.Ending.TheVariants as endings
 use Rattle.taps_timeline.specs.declared.line.Line.{Line}
 use Rattle.taps_timeline.specs.declared.line.Line.TheVariants as lines
 
+-- the word of a cause
 abbrev pub cause_word : Cause → List ℕ
 cause_word causes.Refused = codes "refused"
 cause_word causes.Unreachable = codes "unreachable"
@@ -32,7 +33,8 @@ start_text (starts.Refused cause) rest = codes " refused " ++ (cause_word cause 
 abbrev pub how_text : How → List ℕ → List ℕ
 how_text ends.Reached moment = codes " reached " ++ moment
 how_text (ends.Completed socket) moment = codes " completed " ++ (decimal socket ++ (codes " at " ++ moment))
-how_text (ends.Broke socket cause) moment = codes " broke " ++ (decimal socket ++ (codes " " ++ (cause_word cause ++ (codes " at " ++ moment))))
+how_text (ends.Broke socket cause) moment =
+    codes " broke " ++ (decimal socket ++ (codes " " ++ (cause_word cause ++ (codes " at " ++ moment))))
 how_text ends.Faulted moment = codes " faulted at " ++ moment
 
 -- the gap of a leaf of the plan
@@ -40,6 +42,7 @@ abbrev pub gap_text : Option ℕ → List ℕ
 gap_text None = codes " +none"
 gap_text (Some gap) = codes " +" ++ decimal gap
 
+-- the line of an ending that is no completion
 abbrev pub ending_line : Ending → List ℕ
 ending_line endings.NoCandidate = codes "establishment-error no-candidate"
 ending_line endings.AllFailed = codes "establishment-error all-failed"
@@ -60,20 +63,26 @@ line_text (lines.Began at) = codes "begin " ++ decimal at
 line_text (lines.Started leaf start at) = codes "start " ++ (decimal leaf ++ start_text start (moment_text at))
 line_text (lines.Waited until how at) = codes "wait " ++ (decimal until ++ how_text how (decimal at))
 line_text (lines.Closed socket) = codes "close " ++ decimal socket
-line_text (lines.Listening socket address at) = codes "listen " ++ (decimal socket ++ (codes " " ++ (address.now ++ moment_text at)))
+line_text (lines.Listening socket address at) =
+    codes "listen " ++ (decimal socket ++ (codes " " ++ (address.now ++ moment_text at)))
 line_text (lines.NotListening cause at) = codes "listen refused " ++ (cause_word cause ++ moment_text at)
-line_text (lines.Accepted socket listener at) = codes "accept " ++ (decimal socket ++ (codes " from " ++ (decimal listener ++ moment_text at)))
+line_text (lines.Accepted socket listener at) =
+    codes "accept " ++ (decimal socket ++ (codes " from " ++ (decimal listener ++ moment_text at)))
 line_text (lines.Faulted at) = codes "faulted at " ++ decimal at
 line_text (lines.Shut socket) = codes "shut " ++ decimal socket
 line_text (lines.Ended socket) = codes "ended " ++ decimal socket
 line_text (lines.Failed socket cause) = codes "failed " ++ (decimal socket ++ (codes " " ++ cause_word cause))
 line_text (lines.Ready leaf) = codes "ready " ++ decimal leaf
 line_text (lines.Sent member count) = codes "sent " ++ (decimal member ++ (codes " " ++ decimal count))
-line_text (lines.Received member number hex) = codes "received " ++ (decimal member ++ (codes " " ++ (decimal number ++ (codes " " ++ hex.now))))
-line_text (lines.Part member number hex) = codes "part " ++ (decimal member ++ (codes " " ++ (decimal number ++ (codes " " ++ hex.now))))
+line_text (lines.Received member number hex) =
+    codes "received " ++ (decimal member ++ (codes " " ++ (decimal number ++ (codes " " ++ hex.now))))
+line_text (lines.Part member number hex) =
+    codes "part " ++ (decimal member ++ (codes " " ++ (decimal number ++ (codes " " ++ hex.now))))
 line_text (lines.DataFailed cause) = codes "data-failed " ++ cause_word cause
-line_text (lines.BadFrame message layer place) = codes "bad-frame " ++ (decimal message ++ (codes " " ++ (decimal layer ++ (codes " " ++ decimal place))))
-line_text (lines.NotSpeakable member number layer) = codes "not-speakable " ++ (decimal member ++ (codes " " ++ (decimal number ++ (codes " " ++ decimal layer))))
+line_text (lines.BadFrame message layer place) =
+    codes "bad-frame " ++ (decimal message ++ (codes " " ++ (decimal layer ++ (codes " " ++ decimal place))))
+line_text (lines.NotSpeakable member number layer) =
+    codes "not-speakable " ++ (decimal member ++ (codes " " ++ (decimal number ++ (codes " " ++ decimal layer))))
 line_text (lines.Expired member number) = codes "expired " ++ (decimal member ++ (codes " " ++ decimal number))
 line_text (lines.CloneLimit limit) = codes "clone-error limit-reached " ++ decimal limit
 line_text (lines.Ends ending) = ending_line ending

@@ -317,7 +317,8 @@ fn two_numbers(text: &[u8]) -> Option<(u64, u64)>
 }
 
 fn three_numbers(text: &[u8]) -> Option<(u64, u64, u64)>
-    ensures { IfSome result (λ p. text.now ≡ decimal p.0 ++ (codes " " ++ (decimal p.1 ++ (codes " " ++ decimal p.2)))) }
+    ensures { IfSome result (λ p.
+        text.now ≡ decimal p.0 ++ (codes " " ++ (decimal p.1 ++ (codes " " ++ decimal p.2)))) }
 {
     let (first, rest) = number(text)?;
     let rest = after(b" ", rest)?;

@@ -1,10 +1,8 @@
-ghost use Rattle.std.specs.Prelude.{◌≡◌};
-
-use crate::checks::{FileRules, MOST_BYTES, check_only};
-use crate::command::Command;
+use crate::checks::FileRules;
 use crate::framing::print_frames;
 use crate::layers::Layers;
 use crate::nets::vouch_untouched;
+use crate::one_file::OneFile;
 use crate::printed::Printed;
 use crate::ready::Ready;
 use crate::shelf::Shelf;
@@ -32,50 +30,21 @@ impl FileRules for Frame {
     }
 }
 
-impl<L: Layers> Command<L> for Frame {
-    ghost use Rattle.taps_app.specs.Checks.{HasOnly};
-    ghost use Rattle.taps_app.specs.Frame.{frame};
+impl<L: Layers> OneFile<L> for Frame {
+    ghost use Rattle.taps_app.specs.Frame.{IsFramed};
+    ghost use Rattle.taps_app.specs.OneFile.{LeavesAlone};
 
-    type Value = Option<Ready>;
+    ghost Prints = { λ ready old new text s. IsFramed L.layers ready text s };
 
-    ghost meaning = { frame L.layers };
-
-    ghost seen = { λ value. value };
-
-    ghost keeps = { HasOnly L.layers };
-
-    fn start(_alloc: Global) -> Option<Ready> {
-        None
-    }
-
-    fn count() -> usize {
-        1
-    }
-
-    fn limit(_at: usize) -> u64 {
-        MOST_BYTES
-    }
-
-    fn check(
-        alloc: Global,
-        shelf: &Shelf<'_>,
-        _at: usize,
-        _value: Option<Ready>,
-        bytes: &[u8],
-    ) -> Result<Option<Ready>, Unready> {
-        check_only::<Frame, L>(alloc, shelf, bytes)
-    }
+    ghost MayLeave = { LeavesAlone };
 
     fn print<N: Sockets>(
         alloc: Global,
         shelf: &Shelf<'_>,
-        value: Option<Ready>,
+        ready: &Ready,
         net: &mut N,
     ) -> Result<Printed, NoMemory> {
         vouch_untouched::<N>(net);
-        match value {
-            Some(ready) => print_frames::<L>(alloc, shelf, &ready),
-            None => unreachable!(),
-        }
+        print_frames::<L>(alloc, shelf, ready)
     }
 }

@@ -1,9 +1,7 @@
-ghost use Rattle.std.specs.Prelude.{◌≡◌};
-
-use crate::checks::{FileRules, MOST_BYTES, check_only, derive};
-use crate::command::Command;
+use crate::checks::{FileRules, derive};
 use crate::layers::Layers;
 use crate::nets::vouch_untouched;
+use crate::one_file::OneFile;
 use crate::plan::print_plan;
 use crate::printed::Printed;
 use crate::ready::Ready;
@@ -32,50 +30,21 @@ impl FileRules for Plan {
     }
 }
 
-impl<L: Layers> Command<L> for Plan {
-    ghost use Rattle.taps_app.specs.Checks.{HasOnly};
-    ghost use Rattle.taps_app.specs.Plan.{plan};
+impl<L: Layers> OneFile<L> for Plan {
+    ghost use Rattle.taps_app.specs.OneFile.{LeavesAlone};
+    ghost use Rattle.taps_app.specs.Plan.{PrintsPlan};
 
-    type Value = Option<Ready>;
+    ghost Prints = { λ ready old new text s. PrintsPlan ready text s };
 
-    ghost meaning = { plan L.layers };
-
-    ghost seen = { λ value. value };
-
-    ghost keeps = { HasOnly L.layers };
-
-    fn start(_alloc: Global) -> Option<Ready> {
-        None
-    }
-
-    fn count() -> usize {
-        1
-    }
-
-    fn limit(_at: usize) -> u64 {
-        MOST_BYTES
-    }
-
-    fn check(
-        alloc: Global,
-        shelf: &Shelf<'_>,
-        _at: usize,
-        _value: Option<Ready>,
-        bytes: &[u8],
-    ) -> Result<Option<Ready>, Unready> {
-        check_only::<Plan, L>(alloc, shelf, bytes)
-    }
+    ghost MayLeave = { LeavesAlone };
 
     fn print<N: Sockets>(
         alloc: Global,
         _shelf: &Shelf<'_>,
-        value: Option<Ready>,
+        ready: &Ready,
         net: &mut N,
     ) -> Result<Printed, NoMemory> {
         vouch_untouched::<N>(net);
-        match value {
-            Some(ready) => print_plan(alloc, &ready),
-            None => unreachable!(),
-        }
+        print_plan(alloc, ready)
     }
 }

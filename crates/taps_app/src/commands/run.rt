@@ -1,11 +1,9 @@
-ghost use Rattle.std.specs.Prelude.{◌≡◌};
-
-use crate::checks::{FileRules, MOST_BYTES, check_only, derive, is_initiate, is_quiet};
-use crate::command::Command;
+use crate::checks::{FileRules, derive, is_initiate, is_quiet};
 use crate::layers::Layers;
+use crate::one_file::OneFile;
 use crate::printed::Printed;
 use crate::ready::Ready;
-use crate::session::session_text;
+use crate::session_log::session_text;
 use crate::shelf::Shelf;
 use crate::stop::Unready;
 use std::alloc::Global;
@@ -31,49 +29,19 @@ impl FileRules for Run {
     }
 }
 
-impl<L: Layers> Command<L> for Run {
-    ghost use Rattle.taps_app.specs.Checks.{HasOnly};
-    ghost use Rattle.taps_app.specs.Run.{run};
+impl<L: Layers> OneFile<L> for Run {
+    ghost use Rattle.taps_app.specs.FileSessions.{IsLoggedOn, LeavesSession};
 
-    type Value = Option<Ready>;
+    ghost Prints = { IsLoggedOn };
 
-    ghost meaning = { run L.layers };
-
-    ghost seen = { λ value. value };
-
-    ghost keeps = { HasOnly L.layers };
-
-    fn start(_alloc: Global) -> Option<Ready> {
-        None
-    }
-
-    fn count() -> usize {
-        1
-    }
-
-    fn limit(_at: usize) -> u64 {
-        MOST_BYTES
-    }
-
-    fn check(
-        alloc: Global,
-        shelf: &Shelf<'_>,
-        _at: usize,
-        _value: Option<Ready>,
-        bytes: &[u8],
-    ) -> Result<Option<Ready>, Unready> {
-        check_only::<Run, L>(alloc, shelf, bytes)
-    }
+    ghost MayLeave = { LeavesSession };
 
     fn print<N: Sockets>(
         alloc: Global,
         _shelf: &Shelf<'_>,
-        value: Option<Ready>,
+        ready: &Ready,
         net: &mut N,
     ) -> Result<Printed, NoMemory> {
-        match value {
-            Some(ready) => session_text(alloc, &ready, net),
-            None => unreachable!(),
-        }
+        session_text(alloc, ready, net)
     }
 }

@@ -1,4 +1,4 @@
-ghost use Rattle.std.specs.Prelude.{◌≡◌, Ok, IfOk};
+ghost use Rattle.std.specs.Prelude.{Ok, IfOk};
 ghost use Rattle.taps_app.specs.Checks.{second_value, HasFirst, HasSecond};
 ghost use Rattle.taps_app.specs.Meanings.{Returns};
 ghost use Rattle.taps_app.specs.Sim.{scripted, AreAtFirst};
@@ -8,7 +8,7 @@ use crate::command::Command;
 use crate::layers::Layers;
 use crate::nets::vouch_untouched;
 use crate::printed::Printed;
-use crate::session::simulate;
+use crate::session_log::simulate;
 use crate::shelf::Shelf;
 use crate::stop::Unready;
 use crate::two_files::TwoFiles;

@@ -1,4 +1,4 @@
-ghost use Rattle.std.specs.Prelude.{◌≡◌, ◌≤◌, length, Ok, IfOk};
+ghost use Rattle.std.specs.Prelude.{◌≤◌, length, Ok, IfOk};
 ghost use Rattle.taps_app.specs.Checks.{second_value, most_framed, HasFirst, HasSecond};
 ghost use Rattle.taps_app.specs.Meanings.{Returns};
 ghost use Rattle.taps_app.specs.Unframe.{any_bytes, AreFew};
