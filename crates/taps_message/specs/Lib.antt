@@ -1,0 +1,4 @@
+pub mod Expiry
+pub mod Queues
+pub mod Parts
+pub mod Orders
