@@ -1,0 +1,14 @@
+pub mod Reading
+pub mod Giving
+pub mod Pushing
+pub mod Taking
+pub mod Framing
+pub mod Driving
+pub mod Writings
+pub mod Beginning
+pub mod Joinings
+pub mod Pulling
+pub mod Turning
+pub mod Accepting
+pub mod Holding
+pub mod WorkedSends
