@@ -1,17 +1,22 @@
-//! The program: real files and sinks, and the exit code.
+//! The program: real files, sockets and sinks, and the exit code.
 #![tactic(auto)]
 
-ghost use Rattle.std.specs.Prelude.{◌≡◌, [], IfOk};
+ghost use Rattle.std.specs.Prelude.{◌≡◌, [], ◌∷◌, ◌++◌, map, IfOk, OnOk};
+ghost use Rattle.taps.specs.Nine.{nine};
 
+mod real;
+#[cfg(test)]
+mod tests;
+
+pub use real::run_real;
 use std::alloc::Global;
-use std::env;
 use std::io::ErrorKind;
 use std::process::ExitCode;
-use taps_app::{Status, run};
-use taps_base::{NoMemory, RealFiles, Sink, StdSink};
+use std::{env, rt};
+use taps_app::Status;
+use taps_base::{NoMemory, Sink, StdSink};
 use taps_framer::Framer;
 use taps_frames::{Counted, Len16, Len32, Line, Netstring, Seq, Stuffed, Tag, Varint};
-use taps_script::{ScriptError, ScriptSockets};
 
 fn main(rt: HostRuntime) -> ExitCode {
     let status = match started(rt) {
@@ -21,7 +26,8 @@ fn main(rt: HostRuntime) -> ExitCode {
     ExitCode::from(status.code())
 }
 
-// Makes sinks, words, files, sockets and the shelf of framers, and runs the command.
+// Makes sinks, words and the shelf of the nine framers, and runs the command. The gate refuses a
+// function that makes a box of a framer and hands it out, so the shelf is filled here.
 fn started(rt: HostRuntime) -> Result<Status, NoMemory> {
     let alloc = rt.alloc();
     let mut out = StdSink::output(rt.stdout())?;
@@ -34,31 +40,43 @@ fn started(rt: HostRuntime) -> Result<Status, NoMemory> {
         }
     };
     let mut shelf: Vec<Box<dyn Framer>> = Vec::new(alloc);
-    shelf.push(Box::new(alloc, Len16)?)?;
-    shelf.push(Box::new(alloc, Len32)?)?;
-    shelf.push(Box::new(alloc, Varint)?)?;
-    shelf.push(Box::new(alloc, Netstring)?)?;
-    shelf.push(Box::new(alloc, Counted)?)?;
-    shelf.push(Box::new(alloc, Line)?)?;
-    shelf.push(Box::new(alloc, Stuffed)?)?;
-    shelf.push(Box::new(alloc, Tag { kind: 77 })?)?;
-    shelf.push(Box::new(alloc, Seq)?)?;
-    let mut net = silent_sockets(alloc)?;
-    let mut files = RealFiles::new(alloc, rt)?;
-    Ok(run(
-        alloc, &words, &mut files, &mut out, &mut err, &mut net, &shelf,
-    ))
+    put(&mut shelf, "len16", Box::new(alloc, Len16)?)?;
+    put(&mut shelf, "len32", Box::new(alloc, Len32)?)?;
+    put(&mut shelf, "varint", Box::new(alloc, Varint)?)?;
+    put(&mut shelf, "netstring", Box::new(alloc, Netstring)?)?;
+    put(&mut shelf, "counted", Box::new(alloc, Counted)?)?;
+    put(&mut shelf, "line", Box::new(alloc, Line)?)?;
+    put(&mut shelf, "stuffed", Box::new(alloc, Stuffed)?)?;
+    put(&mut shelf, "tag", Box::new(alloc, Tag { kind: 77 })?)?;
+    put(&mut shelf, "seq", Box::new(alloc, Seq)?)?;
+    Ok(run_nine(alloc, rt, &words, &mut out, &mut err, &shelf))
 }
 
-// Sockets in which nothing ever answers, until there are real ones.
-fn silent_sockets(alloc: Global) -> Result<ScriptSockets, NoMemory>
-    ensures { IfOk result (λ net. net.trace ≡ []) }
+// Puts a framer of this name behind those on the shelf.
+fn put(
+    shelf: &mut Vec<Box<dyn Framer>>,
+    name: &str,
+    framer: Box<dyn Framer>,
+) -> Result<(), NoMemory>
+    requires { (layer framer).name ≡ name.now }
+    ensures { OnOk result (map (λ b. (layer b).name) shelf.new.items
+        ≡ map (λ b. (layer b).name) shelf.old.items ++ name.now ∷ []) }
 {
-    match ScriptSockets::read(alloc, b"") {
-        Ok(net) => Ok(net),
-        Err(ScriptError::Line(_)) => unreachable!(),
-        Err(ScriptError::NoMemory) => Err(NoMemory),
-    }
+    Ok(shelf.push(framer)?)
+}
+
+// Runs the command on the shelf of the nine.
+fn run_nine<R: rt::Files + rt::Net + rt::Clock + Copy + Drop, O: Sink, E: Sink>(
+    alloc: Global,
+    system: R,
+    words: &[String],
+    out: &mut O,
+    err: &mut E,
+    shelf: &Vec<Box<dyn Framer>>,
+) -> Status
+    requires nine { map (λ b. (layer b).name) shelf.now.items ≡ nine }
+{
+    run_real(alloc, system, words, out, err, shelf)
 }
 
 // The words behind the program's name, where they are text.
