@@ -1,0 +1,9 @@
+pub mod WorkedExchanges
+pub mod Unique
+pub mod Writing
+pub mod Asked
+pub mod WritingCalls
+pub mod Judging
+pub mod Alone
+pub mod Firsts
+pub mod Hearing

@@ -1,0 +1,9 @@
+pub mod Decodings
+pub mod Members
+pub mod Turns
+pub mod WorkedExchanges
+pub mod Scripts
+pub mod Written
+pub mod Outcomes
+pub mod Alone
+pub mod Firsts
