@@ -1,0 +1,5 @@
+mod Planning
+mod Decoding
+mod Racing
+mod Talking
+mod Calling

@@ -1,0 +1,17 @@
+//! A caller of taps as a library, as `docs/LIBRARY.md` explains it: the plan of a file, a race over any
+//! sockets, a talk with its winner, and messages through a chain of framers.
+#![tactic(auto)]
+
+mod client;
+mod messages;
+mod plan;
+mod race;
+#[cfg(test)]
+mod rows;
+mod talk;
+
+pub use client::call_over;
+pub use messages::{DecodeError, decode};
+pub use plan::{PlanError, Planned, plan_of_file, text};
+pub use race::race_over;
+pub use talk::talk_over;
