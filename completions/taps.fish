@@ -5,7 +5,7 @@ end
 complete -c taps -f
 complete -c taps -n 'test (__taps_words) = 1' -a plan -d 'print the plan of a file'
 complete -c taps -n 'test (__taps_words) = 1' -a sim -d 'race the plan over scripted sockets'
-complete -c taps -n 'test (__taps_words) = 1' -a run -d 'race the plan on the own sockets'
+complete -c taps -n 'test (__taps_words) = 1' -a run -d 'race the plan on sockets of the system'
 complete -c taps -n 'test (__taps_words) = 1' -a frame -d 'print the bytes of the messages'
 complete -c taps -n 'test (__taps_words) = 1' -a unframe -d 'print the messages in bytes'
 complete -c taps -n 'test (__taps_words) = 2' -F
