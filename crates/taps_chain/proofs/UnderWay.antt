@@ -7,7 +7,9 @@ use Rattle.taps_framer.proofs.Prefixes.{take_drop, take_front}
 use Rattle.taps_chain.specs.Chained.{chained, IsSpoken, spelling}
 use Rattle.taps_chain.specs.Heard.{needs, fails, IsEnding, IsBegun, IsHeard}
 use Rattle.taps_chain.specs.ChainLaws.{AreFramers}
-use Rattle.taps_chain.specs.Looks.{HasLooked}
+use Rattle.taps_framer.specs.declared.scan.Seen.{Seen}
+use Rattle.taps_framer.specs.declared.scan.Seen.TheVariants as seen
+use Rattle.taps_chain.specs.Looks.{HasLooked, HasScanned}
 use Rattle.taps_chain.specs.Hearings.{IsHearingOf, unread_of, IsUnderWay, Waits}
 use Rattle.taps_chain.specs.declared.heard.BadAt.{BadAt}
 use Rattle.taps_chain.specs.declared.heard.Heard.TheVariants as heard
@@ -23,6 +25,12 @@ unheard fs n w x b ms m r =
     let z : IsHeardSome fs 0 x = heard_some fs n w 0 x (omega arith) in
     let P : List (List ℕ) → Type 0 = λ v. IsHeard fs 0 x (v ++ z.messages) z.ending z.rest in
     (z.messages, (z.ending, (z.rest, subst P (sym m) z.heard)))
+
+-- of no bytes all are scanned
+none_left : (y : List ℕ) → y ≡ [] → (scanned : ℕ) (seen : Seen) → scanned ≤ length y → HasScanned y scanned seen
+none_left y e scanned (seen.More scan) h = omega (arith, h, ap length e)
+none_left y e scanned seen.Whole h = tt
+none_left y e scanned seen.Bad h = tt
 
 module _ (fs : List Layer) (n : 0 < length fs) (w : AreFramers fs) (f : Layer) (scans : ℕ → Scan → List ℕ → Type 0) (x : List ℕ) (b : length x ≤ 4194304) where
   -- no byte came
@@ -41,6 +49,7 @@ module _ (fs : List Layer) (n : 0 < length fs) (w : AreFramers fs) (f : Layer) (
           index = omega (arith, e.2, zero_messages);
           looked = subst (λ (v : ℕ). HasLooked f scans v (unread_of p x) p.look) (sym e.2) (l (unread_of p x));
         };
+        all = none_left (unread_of p x) u p.look.scanned p.look.seen (l (unread_of p x)).within;
         needs_more = subst (λ (v : List ℕ). IsEnding fs p.index v needs) (sym u) (none_needs fs n w p.index (omega arith));
       }
 
@@ -54,6 +63,17 @@ module _ (fs : List Layer) (n : 0 < length fs) (w : AreFramers fs) (f : Layer) (
         let e : length x ≡ length (spelling fs 0 ms ++ drop p.taken x) = ap length h.begun.split in
         let o : length ms + length (drop p.taken x) ≤ length (spelling fs 0 ms ++ drop p.taken x) = spelling_long fs n w 0 ms (drop p.taken x) (omega arith) h.begun.spoken in
         omega (arith, h.index)
+
+    -- more bytes came, and layer 0 has looked at them
+    pub looked_on : (q : Progress) → (p.fed < q.fed) × (q.fed ≤ length x) → (q.taken ≡ p.taken) × (q.index ≡ p.index) →
+        HasLooked f scans q.index (unread_of q x) q.look → IsUnderWay fs f scans x ms q
+    looked_on q c o l = record {
+      came = c.1;
+      taken = omega (arith, c.0, o.0, h.taken);
+      begun = subst (λ (v : ℕ). IsBegun fs 0 x ms (drop v x)) (sym o.0) h.begun;
+      index = o.1 ∙ h.index;
+      looked = l;
+    }
 
     -- the unread bytes, and those that are still to come
     split : unread_of p x ++ drop (p.fed - p.taken) (drop p.taken x) ≡ drop p.taken x

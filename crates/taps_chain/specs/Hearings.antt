@@ -3,7 +3,7 @@ use Rattle.std.specs.Prelude.{◌≡◌, ℕ, ◌-◌, ◌≤◌, List, [], ◌�
 use Rattle.taps_framer.specs.Layers.{Layer}
 use Rattle.taps_framer.specs.declared.scan.Scan.{Scan}
 use Rattle.taps_chain.specs.Heard.{Ending, needs, fails, IsEnding, IsBegun, IsHeard}
-use Rattle.taps_chain.specs.Looks.{HasLooked}
+use Rattle.taps_chain.specs.Looks.{HasLooked, HasScanned}
 use Rattle.taps_chain.specs.declared.heard.Heard.{Heard}
 use Rattle.taps_chain.specs.declared.heard.Heard.TheVariants as heard
 use Rattle.taps_chain.specs.declared.progress.Progress.{Progress}
@@ -36,8 +36,9 @@ pub record IsUnderWay (fs : List Layer) (f : Layer) (scans : ℕ → Scan → Li
   pub index : p.index ≡ length ms
   pub looked : HasLooked f scans p.index (unread_of p x) p.look
 
--- besides, more of the bytes are needed for the next message
+-- besides, layer 0 has looked at all that came, and more of the bytes are needed for the next message
 pub record Waits (fs : List Layer) (f : Layer) (scans : ℕ → Scan → List ℕ → Type 0)
     (x : List ℕ) (ms : List (List ℕ)) (p : Progress) : Type 0 where
   pub under_way : IsUnderWay fs f scans x ms p
+  pub all : HasScanned (unread_of p x) p.look.scanned p.look.seen
   pub needs_more : IsEnding fs p.index (unread_of p x) needs

@@ -49,8 +49,8 @@ pub fn hear_bytes(chain: Chain<'_>, bytes: &[u8], piece: usize, sink: &mut List<
     let first = chain.at(0);
     let mut progress = Progress::start(first);
     'pieces: while progress.fed < bytes.len() {
-        let more = piece.min(bytes.len() - progress.fed);
-        if let Some(hearing) = hear_more(&chain, first, bytes, more, &mut progress, sink) {
+        progress.take_piece(first, bytes, piece);
+        if let Some(hearing) = hear_more(&chain, first, bytes, 0, &mut progress, sink) {
             return hearing;
         }
     }

@@ -1,6 +1,6 @@
-ghost use Rattle.std.specs.Prelude.{◌≡◌, ◌+◌, ℕ, List, true, false};
+ghost use Rattle.std.specs.Prelude.{◌≡◌, ◌+◌, ◌<◌, ◌≤◌, ◌++◌, ℕ, List, true, false, length, take};
 ghost use Rattle.taps_framer.specs.Scans.{Represents, IsRun, looked};
-ghost use Rattle.taps_chain.specs.Looks.{HasLooked, LooksOn};
+ghost use Rattle.taps_chain.specs.Looks.{IsSettled, HasLooked, LooksOn};
 
 use std::sync::ledger::Ledger;
 use taps_framer::{Framer, Run, Scan, Seen, Steps, advance_in, look_along_in, start_in};
@@ -81,4 +81,40 @@ pub(crate) fn advance_watched<L: Ledger>(
     } else {
         advance_in(framer, index, scan, bytes)
     }
+}
+
+/// Looks at the next bytes of a frame one by one, up to the one that settles it, and at one at least.
+fn step_along(framer: &dyn Framer, index: u64, scan: Scan, bytes: &[u8]) -> Look
+    requires some { 0 < length bytes.now }
+    requires scan { (x : List ℕ) × Represents (layer framer.now) (scans framer.now) index scan x }
+    ensures some { 0 < result.scanned }
+    ensures within { result.scanned ≤ length bytes.now }
+    ensures settled { (x : List ℕ) → Represents (layer framer.now) (scans framer.now) index scan x →
+        IsSettled (layer framer.now) (scans framer.now) index (x ++ take result.scanned bytes.now) result.seen }
+{
+    let mut reached = scan;
+    let mut scanned = 0;
+    'bytes: loop {
+        let seen = framer.step(index, reached, bytes[scanned]);
+        scanned += 1;
+        let Seen::More(next) = seen else {
+            return Look { scanned, seen };
+        };
+        if scanned == bytes.len() {
+            return Look { scanned, seen };
+        }
+        reached = next;
+    }
+}
+
+/// The same by a boxed framer.
+pub(crate) fn step_along_in(framer: &Box<dyn Framer>, index: u64, scan: Scan, bytes: &[u8]) -> Look
+    requires some { 0 < length bytes.now }
+    requires scan { (x : List ℕ) × Represents (layer framer.now) (scans framer.now) index scan x }
+    ensures some { 0 < result.scanned }
+    ensures within { result.scanned ≤ length bytes.now }
+    ensures settled { (x : List ℕ) → Represents (layer framer.now) (scans framer.now) index scan x →
+        IsSettled (layer framer.now) (scans framer.now) index (x ++ take result.scanned bytes.now) result.seen }
+{
+    step_along(&**framer, index, scan, bytes)
 }

@@ -8,7 +8,7 @@ use Rattle.taps_framer.specs.Prefixes.{are_bytes}
 use Rattle.taps_framer.specs.declared.scan.Scan.{Scan}
 use Rattle.taps_framer.specs.Layers.{IsLawful, IsWholeFrame, is_viable, holds_whole_frame, lives}
 use Rattle.taps_framer.specs.Scans.{Represents}
-use Rattle.taps_framer.proofs.Bytes.{both, and-left, and-right, are_bytes-append, are_bytes-left, are_bytes-take}
+use Rattle.taps_framer.proofs.Bytes.{is_below, both, and-left, and-right, are_bytes-append, are_bytes-left, are_bytes-take}
 use Rattle.taps_framer.proofs.Prefixes.{append-nil, append-cancel, compared}
 use Rattle.taps_framer.proofs.Laws.{frame_alone, viable_when}
 use Rattle.taps_framer.proofs.Sights.{holds_none, dead_by}
@@ -178,3 +178,24 @@ module _ (i : ℕ) (x bytes front : List ℕ) (n place : ℕ) (p : IsLinePart x 
       frame_alone line i (lawful i) (x ++ take place bytes) (x ++ take (place + 1) bytes)
       (spoken (x ++ take place bytes) (omega (arith, s, h, length_at place place_is.0)) (bytes_at place) (one_at place (omega arith)))
       (sym (one_more x bytes place l) ∙ ap (λ (v : ℕ). (x ++ take place bytes) ++ v ∷ []) c)
+
+-- part of a line, and the byte that comes next
+module _ (i : ℕ) (x : List ℕ) (n c : ℕ) (p : IsLinePart x n) where
+  longer : length (x ++ c ∷ []) ≡ n + 1
+  longer = let e = p.counted in omega (arith, e, length-append x (c ∷ []))
+
+  one_with : (c ≡ 10 → ⊥) → is_one_line (x ++ c ∷ []) ≡ true
+  one_with o = line-append x (c ∷ []) p.one (both _ _ (inner c o) refl)
+
+  pub byte_ends : c ≡ 10 → IsWholeFrame line i (x ++ c ∷ [])
+  byte_ends e =
+      let s = p.small in
+      let k = p.counted in
+      frame_alone line i (lawful i) x (x ++ c ∷ []) (spoken x (omega (arith, s, k)) p.bytes p.one) (ap (λ (v : ℕ). x ++ v ∷ []) e)
+
+  pub byte_too_long : (c ≡ 10 → ⊥) → n ≡ 65535 → lives line i (x ++ c ∷ []) ≡ false
+  byte_too_long o e = dead_long i (x ++ c ∷ []) (one_with o) (omega (arith, e, longer))
+
+  pub byte_waits : (c ≡ 10 → ⊥) → n < 65535 → c < 256 → Represents line line_scan i (record { phase = 0; length = n + 1; rest = 0 }) (x ++ c ∷ [])
+  byte_waits o m b = line_represents i (record { phase = 0; length = n + 1; rest = 0 }) (x ++ c ∷ [])
+      (record { counted = longer; small = omega (arith, m); one = one_with o; bytes = are_bytes-append x (c ∷ []) p.bytes (both _ _ (is_below c 256 b) refl) })

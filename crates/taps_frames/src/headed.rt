@@ -160,7 +160,11 @@ pub(crate) fn step<H: Headed>(framer: &H, index: u64, scan: Scan, byte: u8) -> S
         IsSeen (headed (H.format framer.now))
         (headed_scan (H.format framer.now) (H.number framer.now)) index (x ++ byte ∷ []) result }
 {
-    seen_of(advance(framer, index, scan, &[byte]))
+    if scan.phase == BODY {
+        seen_of(advance_body(framer, index, scan, &[byte], 0))
+    } else {
+        step_head(framer, index, scan, byte)
+    }
 }
 
 /// What stands at the start of a buffer.

@@ -1,9 +1,9 @@
-ghost use Rattle.std.specs.Prelude.{◌≡◌, ◌-◌, ◌<◌, ◌≤◌, ℕ, List, true, length, take, slice_index};
-ghost use Rattle.taps_framer.specs.Scans.{Represents, IsRun};
+ghost use Rattle.std.specs.Prelude.{◌≡◌, ◌-◌, ◌<◌, ◌≤◌, ◌++◌, ◌∷◌, [], ℕ, List, true, length, take, slice_index};
+ghost use Rattle.taps_framer.specs.Scans.{Represents, IsSeen, IsRun};
 ghost use Rattle.taps_frames.specs.Line.{line, line_scan, is_one_line};
 
 use crate::room::{first_of, is_of_size, write_parts};
-use crate::runs::{seen_of, sight_of};
+use crate::runs::sight_of;
 use memchr::memchr;
 use taps_base::NoMemory;
 use taps_framer::{Framer, Run, Scan, Seen, Sight};
@@ -25,6 +25,25 @@ fn line_len(bytes: &[u8]) -> usize
         Some(place) => place,
         None => bytes.len(),
     }
+}
+
+/// Looks at the next byte of a line.
+fn step(_index: u64, scan: Scan, byte: u8) -> Seen
+    requires { (x : List ℕ) × Represents line line_scan _index scan x }
+    ensures { (x : List ℕ) → Represents line line_scan _index scan x →
+        IsSeen line line_scan _index (x ++ byte ∷ []) result }
+{
+    if byte == b'\n' {
+        return Seen::Whole;
+    }
+    if scan.length == MOST as u64 {
+        return Seen::Bad;
+    }
+    Seen::More(Scan {
+        phase: 0,
+        length: scan.length + 1,
+        rest: 0,
+    })
 }
 
 /// Looks at the next bytes of a line, at no more than a frame has.
@@ -81,7 +100,7 @@ impl Framer for Line {
     }
 
     fn step(&self, index: u64, scan: Scan, byte: u8) -> Seen {
-        seen_of(advance(index, scan, &[byte]))
+        step(index, scan, byte)
     }
 
     fn advance(&self, index: u64, scan: Scan, bytes: &[u8]) -> Run {
