@@ -1,7 +1,11 @@
+pub mod Apart
+pub mod Blocks
+pub mod Expanded
 pub mod FewLeaves
+pub mod Giving
 pub mod Levels
 pub mod Lines
-pub mod Sorted
+pub mod Placed
 pub mod Steps
 pub mod Taking
 pub mod Vectors

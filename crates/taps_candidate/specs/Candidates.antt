@@ -1,16 +1,16 @@
--- The triples that survive, with their keys, level by level as the code lists them.
+-- The triples of a path and a stack that survive, with their keys.
 use Rattle.std.specs.Prelude.{ℕ, List, [], ◌∷◌, filter, map, if◌then◌else◌}
-use Rattle.std.specs.List.{enumerate_from, flat_map}
+use Rattle.std.specs.List.{enumerate_from}
 use Rattle.taps_endpoint.specs.declared.address.Address.{Address}
 use Rattle.taps_endpoint.specs.Families.{family_of}
 use Rattle.taps_preconnection.specs.declared.path.Path.{Path}
-use Rattle.taps_prune.specs.Survival.{path_survives, stack_survives, is_reachable}
+use Rattle.taps_prune.specs.Survival.{is_reachable}
 use Rattle.taps_rank.specs.declared.turn.Turn.{Turn}
 use Rattle.taps_rank.specs.Keys.{path_key, stack_key}
 use Rattle.taps_rank.specs.declared.turn.Turns.{Turns}
 use Rattle.taps_rank.specs.Turns.{placed_family, turn_of, turn_in}
 use Rattle.taps_stack.specs.declared.stack.Stack.{Stack}
-use Rattle.taps_stack.specs.StackTable.{stacks, stack_place}
+use Rattle.taps_stack.specs.StackTable.{stack_place}
 use Rattle.taps_candidate.specs.declared.candidate.Candidate as code
 use Rattle.taps_candidate.specs.declared.candidate.Level.{Level}
 use Rattle.taps_candidate.specs.declared.plan.Leaf.{Leaf}
@@ -59,19 +59,6 @@ level_of g (place, path) stack =
       stack_key = stack_key g.selection stack;
       stack = stack;
     }
-
--- those of a stack, if it survives
-abbrev pub of_stack : Gathering → ℕ × Path → Stack → List code.Candidate
-of_stack g path stack =
-    if stack_survives g.selection g.role stack then of_level (level_of g path stack) path.1 g.addresses else []
-
--- those of a path, stack by stack
-abbrev pub of_stacks : Gathering → ℕ × Path → List code.Candidate
-of_stacks g path = flat_map (of_stack g path) stacks
-
--- those of a path, if it survives
-abbrev pub of_path : Gathering → ℕ × Path → List code.Candidate
-of_path g path = if path_survives g.selection g.locals path.1 then of_stacks g path else []
 
 -- the leaf of a triple as the code keeps it
 abbrev pub leaf : code.Candidate → Leaf

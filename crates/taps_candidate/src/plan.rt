@@ -1,12 +1,8 @@
-ghost use Rattle.std.specs.Prelude.{◌≡◌, ◌<◌, ◌≤◌, ◌*◌, IfOk, All, length, map};
-ghost use Rattle.std.specs.Cmp.Lexicographic.{slice_cmp};
-ghost use Rattle.std.specs.List.Sorted.{IsPermutation, IsSortedByKey};
-ghost use Rattle.std.specs.Ordering.{nat_cmp};
-ghost use Rattle.taps_candidate.specs.Candidates.{leaf};
+ghost use Rattle.std.specs.Prelude.{◌≡◌, ◌<◌, ◌≤◌, ◌*◌, IfOk, All, length};
 ghost use Rattle.taps_candidate.specs.Gathering.{gathering_of};
 ghost use Rattle.taps_candidate.specs.Plan.{gap_of, gaps_of, leaves_of, plan_of, listed};
 
-use crate::candidate::{Candidate, gather};
+use crate::leaves::Leaves;
 use std::alloc::Global;
 use taps_base::{Gap, List, NoMemory};
 use taps_endpoint::Address;
@@ -29,7 +25,7 @@ pub struct Plan {
 }
 
 /// The plan of a race over these addresses, each of which is listed once.
-#[tactic(auto, using(crate::proofs::FewLeaves::few_leaves))]
+#[tactic(auto, using(crate::proofs::FewLeaves::few_leaves, crate::proofs::Placed::leaves_placed))]
 pub fn build_plan(
     alloc: Global,
     pre: &Preconnection,
@@ -43,7 +39,7 @@ pub fn build_plan(
     ensures few { IfOk result (λ plan. length plan.leaves.items ≤ 24 * length addresses.now.items) }
     ensures placed { IfOk result (λ plan. All (λ leaf. leaf.path < length pre.now.paths.items) plan.leaves.items) }
 {
-    let leaves = ranked_leaves(alloc, pre, role, addresses.as_slice())?;
+    let leaves = collect_leaves(alloc, pre, role, addresses)?;
     let gaps = gaps(alloc, pre.race.mode, pre.race.delay_ms, leaves.len())?;
     Ok(Plan {
         leaves: List::from_vec(leaves),
@@ -51,51 +47,21 @@ pub fn build_plan(
     })
 }
 
-fn ranked_leaves(
+fn collect_leaves(
     alloc: Global,
     pre: &Preconnection,
     role: Role,
-    addresses: &[Address],
+    addresses: &List<Address>,
 ) -> Result<Vec<Leaf>, NoMemory>
     requires { length pre.now.paths.items ≤ 8 }
-    ensures ranked { IfOk result (λ v. v.items ≡ leaves_of (gathering_of pre.now role addresses.now)) }
-    ensures placed { IfOk result (λ v. All (λ leaf. leaf.path < length pre.now.paths.items) v.items) }
+    ensures { IfOk result (λ v. v.items ≡ leaves_of (gathering_of pre.now role addresses.now.items)) }
 {
-    let candidates = sorted(gather(alloc, pre, role, addresses)?);
-    Ok(leaves(alloc, &candidates)?)
-}
-
-// Their keys all differ.
-fn sorted(mut candidates: Vec<Candidate>) -> Vec<Candidate>
-    ensures moved { IsPermutation candidates.items result.items }
-    ensures sorted { IsSortedByKey (λ (c : Candidate). c.key) (slice_cmp nat_cmp) result.items }
-{
-    candidates.sort_unstable_by_key(key);
-    candidates
-}
-
-fn key(candidate: &Candidate) -> [u64; 7]
-    ensures { result ≡ candidate.now.key }
-{
-    candidate.key
-}
-
-fn leaves(alloc: Global, candidates: &[Candidate]) -> Result<Vec<Leaf>, NoMemory>
-    ensures { IfOk result (λ v. v.items ≡ map leaf candidates.now) }
-{
-    Ok(candidates.iter().map(make_leaf).collect(alloc)?)
-}
-
-fn make_leaf(candidate: &Candidate) -> Leaf
-    ensures { result ≡ leaf candidate.now }
-{
-    Leaf {
-        path: candidate.path,
-        target: Target {
-            stack: candidate.stack,
-            address: candidate.address,
-        },
+    let mut leaves = Leaves::new(alloc, pre, role, addresses)?;
+    let mut collected = Vec::new(alloc);
+    while let Some(Leaf { path, target }) = leaves.next() {
+        collected.push(Leaf { path, target })?;
     }
+    Ok(collected)
 }
 
 // The first leaf is tried at once.

@@ -46,6 +46,11 @@ before_from Less p is not_after apart = refl
 before_from Equal p is not_after apart = cc
 before_from Greater p is not_after apart = cc
 
+-- what does not come after and has another key comes before
+pub before_if : (a b : List ℕ) → comes_before b a ≡ false → a ≢ b → comes_before a b ≡ true
+before_if a b not_after apart =
+    before_from (slice_cmp nat_cmp a b) (slice_cmp nat_cmp b a) (nat_list_cmp_total.antisymm b a) not_after (not_tied (slice_cmp nat_cmp a b) (λ same. apart (exact_bytes a b same)))
+
 falls_not : {X : Type 0} (key : X → List ℕ) (ys : List X) → IsSortedByKey key (slice_cmp nat_cmp) ys → (i j : ℕ) (d : X)
     → i ≤ j → j < length ys → comes_before (key (get_or ys j d)) (key (get_or ys i d)) ≡ false
 falls_not key ys sorted i j d le within =
@@ -55,11 +60,8 @@ falls_not key ys sorted i j d le within =
 rises : {X : Type 0} (key : X → List ℕ) (ys : List X) → AllPairs (λ a b. a ≢ b) (map key ys) → IsSortedByKey key (slice_cmp nat_cmp) ys → (i j : ℕ) (d : X)
     → i < j → j < length ys → comes_before (key (get_or ys i d)) (key (get_or ys j d)) ≡ true
 rises key ys apart sorted i j d lt within =
-    before_from (slice_cmp nat_cmp (key (get_or ys i d)) (key (get_or ys j d))) (slice_cmp nat_cmp (key (get_or ys j d)) (key (get_or ys i d)))
-    (nat_list_cmp_total.antisymm (key (get_or ys j d)) (key (get_or ys i d)))
-    (falls_not key ys sorted i j d (omega arith) within)
-    (not_tied (slice_cmp nat_cmp (key (get_or ys i d)) (key (get_or ys j d)))
-    (λ same. apart i j (key d) lt (rw (length-map ys key) within) (get_or-map key ys i d (key d) (omega arith) ∙ exact_bytes (key (get_or ys i d)) (key (get_or ys j d)) same ∙ sym (get_or-map key ys j d (key d) within))))
+    before_if (key (get_or ys i d)) (key (get_or ys j d)) (falls_not key ys sorted i j d (omega arith) within)
+    (λ same. apart i j (key d) lt (rw (length-map ys key) within) (get_or-map key ys i d (key d) (omega arith) ∙ same ∙ sym (get_or-map key ys j d (key d) within)))
 
 count_by-cons : {X : Type 0} (p : X → Bool) (x : X) (xs : List X) → count_by p (x ∷ xs) ≡ cond (p x) 1 0 + count_by p xs
 count_by-cons p x xs = sum_by-cons (λ y. cond (p y) 1 0) x xs
