@@ -1,5 +1,9 @@
 pub mod MapOver
 pub mod Lists
+pub mod Numbers
+pub mod Marks
+pub mod Index
+pub mod Losers
 pub mod StandsAlike
 pub mod Choices
 pub mod StandsOn

@@ -1,5 +1,5 @@
 -- Which events answer a command, and which items they bring.
-use Rattle.std.specs.Prelude.{ℕ, ◌+◌, ◌^◌, Bool, true, false, not, ◌&&◌, ◌==◌, nat_le, nat_lt}
+use Rattle.std.specs.Prelude.{◌≡◌, ℕ, [], ◌+◌, ◌^◌, Bool, true, false, not, ◌&&◌, ◌==◌, nat_le, nat_lt}
 use Rattle.taps_stack.specs.declared.target.Target.{Target}
 use Rattle.taps_socket.specs.declared.item.How.{How}
 use Rattle.taps_socket.specs.declared.item.How.TheVariants.{Reached, Completed, Broke, Faulted}
@@ -22,6 +22,13 @@ is_end race until at Reached = nat_le until at
 is_end race until at (Completed socket) = has race.pending socket
 is_end race until at (Broke socket cause) = has race.pending socket
 is_end race until at Faulted = true
+
+-- a wait may end so: by a pending socket, and by one that breaks only where no other did
+abbrev pub MayEnd : Standing → How → Type 0
+MayEnd race Reached = Unit {0}
+MayEnd race (Completed socket) = has race.pending socket ≡ true
+MayEnd race (Broke socket cause) = (has race.pending socket ≡ true) × (race.broken ≡ [])
+MayEnd race Faulted = Unit {0}
 
 -- the event answers the command: its leaf, with a socket number that the race has not had; its wait; its close
 abbrev pub answers : Standing → Command → Told → Bool

@@ -5,6 +5,7 @@ pub mod Events
 pub mod Steps
 pub mod Stands
 pub mod Telling
+pub mod Order
 pub mod Fields
 pub mod CarriedOut
 pub mod UnderWay

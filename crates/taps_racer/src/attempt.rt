@@ -1,5 +1,6 @@
 ghost use Rattle.std.specs.Prelude.{◌≡◌};
 ghost use Rattle.taps_racer.specs.Attempts as attempts;
+ghost use Rattle.taps_racer.specs.Order.{is_open, is_pending};
 
 /// What became of the socket of an attempt.
 #[derive(Clone, Copy, Debug, PartialEq, Eq)]
@@ -30,41 +31,28 @@ impl Attempt {
         }
     }
 
-    /// Its socket, if that is open.
-    pub(crate) fn open_socket(&self) -> Option<u32>
-        ensures { result ≡ attempts.open_socket self.now }
+    /// Whether its socket is open.
+    pub(crate) fn is_open(&self) -> bool
+        ensures { result ≡ is_open self.now }
     {
         match self {
-            Attempt::Refused => None,
-            Attempt::Started { socket, state } => match state {
-                State::Pending | State::Completed | State::Broken => Some(*socket),
-                State::Closed => None,
+            Attempt::Refused => false,
+            Attempt::Started { state, .. } => match state {
+                State::Pending | State::Completed | State::Broken => true,
+                State::Closed => false,
             },
         }
     }
 
-    /// Its socket, if that is pending.
-    pub(crate) fn pending_socket(&self) -> Option<u32>
-        ensures { result ≡ attempts.pending_socket self.now }
+    /// Whether its socket is pending.
+    pub(crate) fn is_pending(&self) -> bool
+        ensures { result ≡ is_pending self.now }
     {
         match self {
-            Attempt::Refused => None,
-            Attempt::Started { socket, state } => match state {
-                State::Pending => Some(*socket),
-                State::Completed | State::Broken | State::Closed => None,
-            },
-        }
-    }
-
-    /// Its socket, if that broke and is open.
-    pub(crate) fn broken_socket(&self) -> Option<u32>
-        ensures { result ≡ attempts.broken_socket self.now }
-    {
-        match self {
-            Attempt::Refused => None,
-            Attempt::Started { socket, state } => match state {
-                State::Broken => Some(*socket),
-                State::Pending | State::Completed | State::Closed => None,
+            Attempt::Refused => false,
+            Attempt::Started { state, .. } => match state {
+                State::Pending => true,
+                State::Completed | State::Broken | State::Closed => false,
             },
         }
     }

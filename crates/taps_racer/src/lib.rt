@@ -8,6 +8,7 @@ mod command;
 mod establishment;
 mod event;
 mod events;
+mod order;
 mod phase;
 mod race;
 mod racer;

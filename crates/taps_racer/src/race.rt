@@ -1,19 +1,24 @@
-ghost use Rattle.std.specs.Prelude.{◌≡◌, ℕ, ◌++◌, ◌∷◌, map, ◌<◌, ◌≤◌, ◌^◌, [], length, IfOk, slice_get, Some, true};
+ghost use Rattle.std.specs.Prelude.{◌≡◌, ℕ, ◌++◌, ◌∷◌, map, ◌<◌, ◌≤◌, ◌^◌, [], length, IfOk, slice_get, Some, true, false};
 ghost use Rattle.std.specs.List.{All};
 ghost use Rattle.std.specs.Option.{option_or};
 ghost use Rattle.taps_socket.specs.declared.race_answer.RaceAnswer.TheVariants.{Ready};
+ghost use Rattle.taps_socket.specs.RaceSockets.{has};
 ghost use Rattle.taps_socket.specs.Winner.{place_of};
 ghost use Rattle.taps_socket.specs.Over as ends;
 ghost use Rattle.taps_socket.specs.Turn as turn;
 ghost use Rattle.taps_racer.specs.declared.command.Command.TheVariants.{Start};
+ghost use Rattle.taps_racer.specs.declared.attempt.Attempt.TheVariants as attempt;
+ghost use Rattle.taps_racer.specs.declared.attempt.State.TheVariants as states;
 ghost use Rattle.taps_racer.specs.Attempts.{socket_of, marked};
 ghost use Rattle.taps_racer.specs.Kept.{IsShort, standing_of, fresh};
+ghost use Rattle.taps_racer.specs.Order as numbers;
 ghost use Rattle.taps_racer.specs.Commands.{ending, going_on, command_of};
-ghost use Rattle.taps_racer.specs.Events.{is_moment, is_end, answers};
+ghost use Rattle.taps_racer.specs.Events.{is_moment, is_end, MayEnd, answers};
 ghost use Rattle.taps_racer.specs.Steps.{after_wait, is_used, heard};
 
-use crate::attempts::{
-    add, had_socket, is_pending, least_broken, least_loser, mark, pending_count, place_in,
+use crate::attempts::{add, place_in};
+use crate::order::{
+    Numbered, first_loser, had_socket, insert, is_pending, least_loser, mark, place_for,
 };
 use crate::{Attempt, Command, State, Told};
 use std::alloc::Global;
@@ -33,19 +38,24 @@ pub(crate) struct Race {
     faulted: bool,
     ready: Option<RaceAnswer>,
     attempts: Vec<Attempt>,
+    // The sockets by their numbers, of which the first ones are known to be no losers.
+    order: Vec<Numbered>,
+    passed: usize,
+    // How many sockets are pending, and the socket that broke and is open.
+    pending: usize,
+    broken: Option<u32>,
 }
 
 impl Model for Race {
-    ghost use Rattle.std.specs.Prelude.{◌≤◌, length, vec_capacity};
-    ghost use Rattle.taps_racer.specs.Kept.{Kept, IsBounded};
+    ghost use Rattle.taps_racer.specs.Kept.{Kept};
 
     ghost Value = { Kept };
 
-    ghost use Rattle.taps_racer.specs.Fields.{kept_of};
+    ghost use Rattle.taps_racer.specs.Fields.{kept_of, IsKept};
 
     ghost view = { kept_of };
 
-    ghost invariant = { λ r. IsBounded (kept_of r) × (length r.gaps.items ≤ vec_capacity r.attempts) };
+    ghost invariant = { IsKept };
 }
 
 impl Race {
@@ -64,6 +74,7 @@ impl Race {
     {
         let kept = gaps.to_vec(alloc)?;
         let attempts = Vec::with_capacity(alloc, gaps.len())?;
+        let order = Vec::with_capacity(alloc, gaps.len())?;
         Ok(Race {
             gaps: kept,
             timeout,
@@ -74,6 +85,10 @@ impl Race {
             faulted: false,
             ready: None,
             attempts,
+            order,
+            passed: 0,
+            pending: 0,
+            broken: None,
         })
     }
 
@@ -111,7 +126,7 @@ impl Race {
         if self.gaps.len() == 0 {
             return Some(RaceAnswer::NoCandidate);
         }
-        if self.attempts.len() == self.gaps.len() && pending_count(&self.attempts) == 0 {
+        if self.attempts.len() == self.gaps.len() && self.pending == 0 {
             return Some(RaceAnswer::AllFailed);
         }
         None
@@ -138,7 +153,7 @@ impl Race {
     {
         self.attempts.len() < self.gaps.len()
             && (self.attempts.len() == 0
-                || pending_count(&self.attempts) == 0
+                || self.pending == 0
                 || match self.gap_end() {
                     Some(end) => end <= self.last,
                     None => false,
@@ -165,7 +180,7 @@ impl Race {
     fn ending(&self, answer: RaceAnswer) -> Command
         ensures { result ≡ ending (standing_of self.now) answer }
     {
-        match least_loser(&self.attempts, self.ready) {
+        match least_loser(&self.attempts, self.ready, &self.order, self.passed) {
             Some(socket) => Command::Close(socket),
             None => Command::Finish(answer),
         }
@@ -176,7 +191,7 @@ impl Race {
         ensures command { result ≡ going_on self.now.rules (standing_of self.now) }
         ensures leaf { (n : ℕ) → result ≡ Start n → n < length self.now.rules.gaps }
     {
-        if let Some(socket) = least_broken(&self.attempts) {
+        if let Some(socket) = self.broken {
             return Command::Close(socket);
         }
         if self.is_due() {
@@ -208,8 +223,8 @@ impl Race {
     {
         match how {
             How::Reached => until <= at,
-            How::Completed(socket) => is_pending(&self.attempts, socket),
-            How::Broke(socket, _) => is_pending(&self.attempts, socket),
+            How::Completed(socket) => is_pending(&self.attempts, &self.order, socket),
+            How::Broke(socket, _) => is_pending(&self.attempts, &self.order, socket),
             How::Faulted => true,
         }
     }
@@ -219,7 +234,7 @@ impl Race {
     {
         match (command, event) {
             (Command::Start(n), Told::Started { leaf, socket, at }) => {
-                leaf == n && !had_socket(&self.attempts, socket) && self.is_moment(at)
+                leaf == n && !had_socket(&self.attempts, &self.order, socket) && self.is_moment(at)
             }
             (Command::Start(n), Told::Refused { leaf, at, .. }) => leaf == n && self.is_moment(at),
             (Command::Wait(end), Told::Waited { until, at, how }) => {
@@ -230,24 +245,73 @@ impl Race {
         }
     }
 
-    fn attempt(&mut self, attempt: Attempt, at: u64)
+    // Notes an attempt that has a socket.
+    fn start(&mut self, socket: u32, at: u64)
+        requires room { length self.old.attempts < length self.old.rules.gaps }
+        requires new_socket { has (standing_of self.old).started socket ≡ false }
+        requires moment { at < 2 ^ 63 }
+        ensures { self.new ≡ record self.old {
+          last = at;
+          last_attempt = at;
+          attempts = self.old.attempts ++ attempt.Started socket states.Pending ∷ [];
+        } }
+    {
+        let number = Numbered {
+            socket,
+            place: self.attempts.len() as u32,
+        };
+        let place = place_for(&self.order, socket);
+        insert(&mut self.order, place, number);
+        self.passed = self.passed.min(place);
+        let state = State::Pending;
+        add(&mut self.attempts, Attempt::Started { socket, state });
+        self.pending += 1;
+        self.last = at;
+        self.last_attempt = at;
+    }
+
+    // Notes an attempt that failed at once.
+    fn refuse(&mut self, at: u64)
         requires room { length self.old.attempts < length self.old.rules.gaps }
         requires moment { at < 2 ^ 63 }
         ensures { self.new ≡ record self.old {
           last = at;
           last_attempt = at;
-          attempts = self.old.attempts ++ attempt ∷ [];
+          attempts = self.old.attempts ++ attempt.Refused ∷ [];
         } }
     {
+        add(&mut self.attempts, Attempt::Refused);
         self.last = at;
         self.last_attempt = at;
-        add(&mut self.attempts, attempt);
     }
 
-    fn mark(&mut self, socket: u32, state: State)
-        ensures { self.new ≡ record self.old { attempts = map (marked socket state) self.old.attempts } }
+    fn complete(&mut self, socket: u32)
+        requires { has (standing_of self.old).pending socket ≡ true }
+        ensures { self.new ≡ record self.old { attempts = map (marked socket states.Completed) self.old.attempts } }
     {
-        mark(&mut self.attempts, socket, state);
+        mark(&mut self.attempts, &self.order, socket, State::Completed);
+        self.pending -= 1;
+    }
+
+    fn break_off(&mut self, socket: u32)
+        requires pending { has (standing_of self.old).pending socket ≡ true }
+        requires first { (standing_of self.old).broken ≡ [] }
+        ensures { self.new ≡ record self.old { attempts = map (marked socket states.Broken) self.old.attempts } }
+    {
+        mark(&mut self.attempts, &self.order, socket, State::Broken);
+        self.pending -= 1;
+        self.broken = Some(socket);
+    }
+
+    // Notes that a socket was closed, and passes over those that are no losers any more.
+    fn close(&mut self, socket: u32)
+        ensures { self.new ≡ record self.old { attempts = map (marked socket states.Closed) self.old.attempts } }
+    {
+        let pending = one_if(is_pending(&self.attempts, &self.order, socket));
+        self.pending -= pending;
+        mark(&mut self.attempts, &self.order, socket, State::Closed);
+        self.broken = without(self.broken, socket);
+        self.passed = first_loser(&self.attempts, self.ready, &self.order, self.passed);
     }
 
     fn pass(&mut self, at: u64)
@@ -276,7 +340,8 @@ impl Race {
     }
 
     fn wait_over(&mut self, at: u64, how: How)
-        requires { at < 2 ^ 63 }
+        requires moment { at < 2 ^ 63 }
+        requires ends { MayEnd (standing_of self.old) how }
         ensures { self.new ≡ after_wait self.old at how }
     {
         self.pass(at);
@@ -284,9 +349,9 @@ impl Race {
             How::Reached => {}
             How::Completed(socket) => {
                 self.win(socket, at);
-                self.mark(socket, State::Completed);
+                self.complete(socket);
             }
-            How::Broke(socket, _) => self.mark(socket, State::Broken),
+            How::Broke(socket, _) => self.break_off(socket),
             How::Faulted => self.fail(),
         }
     }
@@ -300,13 +365,10 @@ impl Race {
             return false;
         }
         match event {
-            Told::Started { socket, at, .. } => {
-                let state = State::Pending;
-                self.attempt(Attempt::Started { socket, state }, at);
-            }
-            Told::Refused { at, .. } => self.attempt(Attempt::Refused, at),
+            Told::Started { socket, at, .. } => self.start(socket, at),
+            Told::Refused { at, .. } => self.refuse(at),
             Told::Waited { at, how, .. } => self.wait_over(at, how),
-            Told::Closed { socket } => self.mark(socket, State::Closed),
+            Told::Closed { socket } => self.close(socket),
         }
         true
     }
@@ -330,5 +392,21 @@ fn sooner(moment: u64, other: Option<u64>) -> u64
     match other {
         Some(end) => moment.min(end),
         None => moment,
+    }
+}
+
+fn one_if(holds: bool) -> usize
+    ensures { result ≡ numbers.one_if holds }
+{
+    if holds { 1 } else { 0 }
+}
+
+// The socket that broke, unless it is this one.
+fn without(broken: Option<u32>, socket: u32) -> Option<u32>
+    ensures { result ≡ numbers.without broken socket }
+{
+    match broken {
+        Some(other) => { if other == socket { None } else { Some(other) } }
+        None => None,
     }
 }
