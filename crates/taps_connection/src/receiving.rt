@@ -24,6 +24,13 @@ impl<'a, S: State> Connection<'a, S> {
     {
         self.receiver.source.given()
     }
+
+    /// Whether the other end ended its sending side.
+    pub fn has_ended(&self) -> bool
+        ensures { result ≡ self.now.receiver.ended }
+    {
+        self.receiver.ended
+    }
 }
 
 impl<'a, S: Open> Connection<'a, S> {

@@ -166,7 +166,7 @@ items_step m calls (waits u a) t = absurd (data_asks m (stop calls) (outbox_afte
 items_step m calls (listens g a) t = absurd (data_asks m (stop calls) (outbox_after m calls).stand _ _ _ (listens g a) t)
 items_step m calls (accepts l u a) t = absurd (data_asks m (stop calls) (outbox_after m calls).stand _ _ _ (accepts l u a) t)
 
-items_are : (m : Member) (calls : List Call) → IsInTurn (turn_alone m) calls → AreExchangeItems m.socket (items_of calls)
+pub items_are : (m : Member) (calls : List Call) → IsInTurn (turn_alone m) calls → AreExchangeItems m.socket (items_of calls)
 items_are m [] t = tt
 items_are m (c ∷ calls) t = all_append (items_by c) (items_of calls) (items_step m calls c t.0) (items_are m calls t.1)
   where

@@ -7,3 +7,10 @@ pub mod Judging
 pub mod Alone
 pub mod Firsts
 pub mod Hearing
+pub mod Behind
+pub mod SendingAll
+pub mod Kept
+pub mod HearingOn
+pub mod Exchanging
+pub mod Accepting
+pub mod Closing

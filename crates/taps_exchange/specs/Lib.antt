@@ -7,3 +7,8 @@ pub mod Written
 pub mod Outcomes
 pub mod Alone
 pub mod Firsts
+pub mod Sendings
+pub mod Hearings
+pub mod Changes
+pub mod Accepting
+pub mod Exchanged

@@ -1,6 +1,7 @@
 // What is proved of every exchange.
 ghost use Rattle.std.specs.Prelude.{List};
 ghost use Rattle.taps_socket.specs.Calls.{Call, Request};
+ghost use Rattle.taps_exchange.specs.Accepting.{AcceptsAll};
 ghost use Rattle.taps_exchange.specs.Alone.{OneIsAlone};
 ghost use Rattle.taps_exchange.specs.Firsts.{DatagramsAreHeard, StreamsAreHeard};
 ghost use Rattle.taps_exchange.specs.Outcomes.{JudgesExchanges};
@@ -27,4 +28,10 @@ pub fn vouch_alone()
 pub fn vouch_hearing()
     ensures streams { StreamsAreHeard }
     ensures datagrams { DatagramsAreHeard }
+{}
+
+/// Messages that are few and short enough, of which a final one is the last, are all accepted.
+#[tactic(auto, using(crate::proofs::Accepting::accepts_all))]
+pub fn vouch_accepting()
+    ensures { AcceptsAll }
 {}

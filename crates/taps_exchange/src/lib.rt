@@ -4,9 +4,16 @@
 //! written and the outcomes say is proved of that function.
 #![tactic(auto)]
 
+mod accepted;
+mod exchanged;
+mod heard;
 mod laws;
 mod outcome;
+mod sent;
 mod worked;
 
-pub use laws::{vouch_alone, vouch_hearing, vouch_outcomes, vouch_unique};
+pub use exchanged::{Exchanged, exchange, exchange_over};
+pub use heard::hear_until;
+pub use laws::{vouch_accepting, vouch_alone, vouch_hearing, vouch_outcomes, vouch_unique};
 pub use outcome::Outcome;
+pub use sent::send_all;

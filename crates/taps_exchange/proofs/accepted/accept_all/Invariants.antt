@@ -1,0 +1,19 @@
+use Rattle.std.proofs.Common.{◌≡◌}
+use Rattle.taps_chain.specs.Layers.{layers_of}
+use Rattle.taps_message.specs.Queues.{empty_queue}
+use Rattle.taps_stack.specs.StackTable.{is_stream}
+use Rattle.taps_connection.specs.Sound.{IsSound}
+use Rattle.taps_exchange.specs.Accepting.{handed}
+use Rattle.taps_exchange.proofs.accepted.accept_all.Given as goal
+
+abbrev pub invariant-accepting : goal.invariant-accepting
+invariant-accepting g l =
+    (goal.iterator-accepting g).can_next l.message-iterator ×
+    (goal.iterator-accepting g).is_finite l.message-iterator ×
+    record {
+      queue : l.connection.sender.queue.queue ≡ handed l.at empty_queue l.yielded;
+      moment : l.connection.sender.moment ≡ l.at;
+      sound : IsSound (is_stream l.fn.connection.stack) (layers_of (λ vtable. (g.dyn-1.0.entry vtable).1) l.fn.connection.chain) l.connection.sender;
+      sender : l.connection.sender ≡ record l.fn.connection.sender { queue = l.connection.sender.queue; moment = l.connection.sender.moment };
+      kept : l.connection ≡ record l.fn.connection { sender = l.connection.sender };
+    }
