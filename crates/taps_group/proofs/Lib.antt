@@ -1,0 +1,14 @@
+pub mod Places
+pub mod Ordering
+pub mod Numbering
+pub mod Members
+pub mod Firsts
+pub mod Seeking
+pub mod Soundness
+pub mod Accepting
+pub mod Setting
+pub mod Racing
+pub mod Cloning
+pub mod Closing
+pub mod Opening
+pub mod WorkedGroups

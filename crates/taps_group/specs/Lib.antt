@@ -1,0 +1,14 @@
+pub mod Places
+pub mod Orders
+pub mod Properties
+pub mod Members
+pub mod Sending
+pub mod Receiving
+pub mod Groups
+pub mod Accepting
+pub mod Begun
+pub mod Firsts
+pub mod Clones
+pub mod Winning
+pub mod Closes
+pub mod WorkedGroups
