@@ -1,0 +1,14 @@
+pub mod FirstOnes
+pub mod SameAddresses
+pub mod Named
+pub mod Pending
+pub mod Kept
+pub mod Linked
+pub mod Accepting
+pub mod Unused
+pub mod Traffics
+pub mod Going
+pub mod Founds
+pub mod Answered
+pub mod Joining
+pub mod WorkedMemory

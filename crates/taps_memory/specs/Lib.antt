@@ -1,0 +1,13 @@
+pub mod Pairs
+pub mod Sides
+pub mod Links
+pub mod Targets
+pub mod Listeners
+pub mod MemoryAnswers
+pub mod MemorySteps
+pub mod Memory
+pub mod Joined
+pub mod Kept
+pub mod Goings
+pub mod Begun
+pub mod WorkedMemory
