@@ -5,15 +5,16 @@ use Rattle.taps_base.specs.declared.sink.SinkAnswer.{SinkAnswer}
 use Rattle.taps_base.specs.declared.sink.SinkAnswer.TheVariants.{Taken, Failed}
 use Rattle.taps_framer.specs.Layers.{Layer}
 use Rattle.taps_text.specs.ErrorLines.{refused_line, fault_line, output_fault_line, no_memory_line, usage_line}
-use Rattle.taps_app.specs.Asked.{Asked, NoCommand, Asks, asked_of, IsNoCommand, IsByCause}
-use Rattle.taps_app.specs.Meanings.{Meaning, HasText}
+use Rattle.taps_command.specs.Asked.{Asked, NoCommand, Asks, IsNoCommand, IsByCause}
+use Rattle.taps_app.specs.Arguments.{asked_of}
+use Rattle.taps_command.specs.Meanings.{Meaning, HasText}
 use Rattle.taps_app.specs.Promises.{Promises}
-use Rattle.taps_app.specs.Runs.{World, Ends, Says, Takes, status_of}
-use Rattle.taps_app.specs.Telling.{Tells, MayTell}
-use Rattle.taps_app.specs.declared.status.Status.{Status}
-use Rattle.taps_app.specs.declared.status.Status.TheVariants as status
-use Rattle.taps_app.specs.declared.stop.Stop.{Stop}
-use Rattle.taps_app.specs.declared.stop.Stop.TheVariants.{Refused, FileFault, SinkFault, NoMemory}
+use Rattle.taps_command.specs.Runs.{World, Ends, Says, Takes, status_of}
+use Rattle.taps_command.specs.Telling.{Tells, MayTell}
+use Rattle.taps_command.specs.declared.status.Status.{Status}
+use Rattle.taps_command.specs.declared.status.Status.TheVariants as status
+use Rattle.taps_command.specs.declared.stop.Stop.{Stop}
+use Rattle.taps_command.specs.declared.stop.Stop.TheVariants.{Refused, FileFault, SinkFault, NoMemory}
 use Rattle.taps.specs.Written.{IsWritten, IsWrittenAtMostOnce, HasNoText}
 
 -- a text is written at most once

@@ -3,11 +3,11 @@ use Rattle.std.specs.Prelude.{◌≡◌, ◌⊎◌, ℕ, List, ⊤}
 use Rattle.taps_base.specs.Sinks.{SinkState, Receives}
 use Rattle.taps_base.specs.declared.sink.SinkAnswer.{SinkAnswer}
 use Rattle.taps_base.specs.declared.sink.SinkAnswer.TheVariants.{Taken, Failed}
-use Rattle.taps_app.specs.Asked.{Asked, IsNoCommand}
-use Rattle.taps_app.specs.Meanings.{HasText}
-use Rattle.taps_app.specs.Runs.{Takes}
-use Rattle.taps_app.specs.declared.status.Status.{Status}
-use Rattle.taps_app.specs.declared.status.Status.TheVariants as status
+use Rattle.taps_command.specs.Asked.{Asked, IsNoCommand}
+use Rattle.taps_command.specs.Meanings.{HasText}
+use Rattle.taps_command.specs.Runs.{Takes}
+use Rattle.taps_command.specs.declared.status.Status.{Status}
+use Rattle.taps_command.specs.declared.status.Status.TheVariants as status
 
 -- a sink received at most one write
 abbrev pub IsWrittenAtMostOnce : SinkState → SinkState → Type 0

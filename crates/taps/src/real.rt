@@ -1,7 +1,7 @@
 ghost use Rattle.std.specs.Prelude.{◌≤◌, length, map};
 ghost use Rattle.taps.specs.SystemRuns.{IsSystemRun};
 ghost use Rattle.taps.specs.Written.{IsWritten};
-ghost use Rattle.taps_app.specs.Asked.{asked_of};
+ghost use Rattle.taps_app.specs.Arguments.{asked_of};
 
 use std::alloc::Global;
 use std::rt;

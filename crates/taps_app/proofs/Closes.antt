@@ -12,8 +12,9 @@ use Rattle.taps_socket.specs.RaceSockets.{has, started, closed, open_sockets}
 use Rattle.taps_socket.specs.LiveSockets.{given, live_sockets}
 use Rattle.taps_socket.specs.Once.{IsOnce}
 use Rattle.taps_socket.specs.LawfulRace.{WinnerAlone}
-use Rattle.taps_app.specs.Session.{closes_of, IsClosedOnce}
-use Rattle.taps_app.specs.Raced.{HasLiveWinner}
+use Rattle.taps_command.specs.Nets.{IsClosedOnce}
+use Rattle.taps_stack.specs.declared.target.Target.{Target}
+use Rattle.taps_app.specs.Raced.{closes_of, HasWinner}
 
 -- in a race only starts give sockets
 given_started : (t : List Item) → IsRaceTrace t → given t ≡ started t
@@ -59,17 +60,17 @@ first_of_both false b h = h
 not_closed : (t : List Item) (s : ℕ) → has (live_sockets t) s ≡ true → has (closed t) s ≡ false
 not_closed t s h = not-true _ (first_of_both _ _ (rw (unclosed t (given t) s) at h))
 
-once : (t : List Item) (a : RaceAnswer) → HasLiveWinner a t → IsOnce (closed t) → IsOnce (closed (closes_of a ++ t))
-once t (answer.Ready leaf x at) live h = (not_closed t x live, h)
-once t a live h = h
+once : (targets : List Target) (t : List Item) (a : RaceAnswer) → HasWinner targets t a → IsOnce (closed t) → IsOnce (closed (closes_of a ++ t))
+once targets t (answer.Ready leaf x at) winner h = (not_closed t x winner.live, h)
+once targets t a winner h = h
 
 same_given : (t : List Item) (a : RaceAnswer) → given (closes_of a ++ t) ≡ given t
 same_given t (answer.Ready leaf x at) = refl
 same_given t a = refl
 
-pub closed_once : (t : List Item) (a : RaceAnswer) → IsRaceTrace t → WinnerAlone a (open_sockets t) → HasLiveWinner a t → IsOnce (closed t) → IsClosedOnce (closes_of a ++ t)
-closed_once t a race alone live h =
+pub closed_once : (targets : List Target) (t : List Item) (a : RaceAnswer) → IsRaceTrace t → WinnerAlone a (open_sockets t) → HasWinner targets t a → IsOnce (closed t) → IsClosedOnce (closes_of a ++ t)
+closed_once targets t a race alone winner h =
     record {
       all = λ s given_it. all_closed t a s race alone (rw (same_given t a) at given_it);
-      once = once t a live h;
+      once = once targets t a winner h;
     }

@@ -6,38 +6,39 @@ use Rattle.taps_base.specs.Sinks.{SinkState}
 use Rattle.taps_base.specs.declared.sink.SinkAnswer.TheVariants as answers
 use Rattle.taps_base.proofs.Results.{both_ok, ok_same}
 use Rattle.taps_framer.specs.Layers.{Layer}
-use Rattle.taps_app.specs.Session.{closes_of}
-use Rattle.taps_socket.specs.Net.{Net}
 use Rattle.taps_script.specs.ScriptNet.{Scripted, at_first}
 use Rattle.taps_script.specs.Scripts.{script_of}
-use Rattle.taps_socket.specs.declared.item.Item.{Item}
 use Rattle.taps_script.specs.declared.line.Line.{Line}
-use Rattle.taps_socket.specs.declared.race_answer.RaceAnswer.{RaceAnswer}
 use Rattle.taps_preconnection.specs.declared.preconnection.Preconnection.{Preconnection}
-use Rattle.taps_text.specs.Log.{log_of}
-use Rattle.taps_text.specs.declared.outcome.Outcome.TheVariants as outcomes
+use Rattle.taps_socket.specs.Calls.{items_of}
+use Rattle.taps_text.specs.Log.{log_lines}
 use Rattle.taps_text.specs.declared.refusal.Refusal.{Refusal}
-use Rattle.taps_app.specs.Asked.{Asks, asked_in, asked_of, IsRun}
-use Rattle.taps_app.specs.Checks.{FileRules, most_bytes, most_framed, addresses_for, checked, only_file, first_file, second_file, beside}
+use Rattle.taps_command.specs.Asked.{Asks, IsRun}
+use Rattle.taps_app.specs.Arguments.{asked_in, asked_of}
+use Rattle.taps_command.specs.Checks.{FileRules, most_bytes, most_framed, addresses_for, checked, only_file, first_file, second_file, beside}
 use Rattle.taps_app.specs.FilePlans.{IsPlanned, IsPlanOfFile}
 use Rattle.taps_app.specs.Frame.{frame, frame_rules, IsFramed}
 use Rattle.taps_app.specs.Framings.{FramesFile, UnframesFile, IsFramingOf}
-use Rattle.taps_app.specs.Meanings.{Meaning, Reading, judge, HasText}
+use Rattle.taps_command.specs.Meanings.{Meaning, Reading, judge, HasText}
 use Rattle.taps_app.specs.Plan.{plan, plan_rules, PrintsPlan}
-use Rattle.taps_app.specs.Ready.{Ready}
-use Rattle.taps_app.specs.OneFile.{HasRead}
+use Rattle.taps_command.specs.Ready.{Ready}
+use Rattle.taps_command.specs.Nets.{SocketsState}
+use Rattle.taps_command.specs.OneFile.{HasRead}
 use Rattle.taps_app.specs.Run.{run, run_rules}
-use Rattle.taps_app.specs.Runs.{World, Ends, Delivers, Judged, Passes, Takes, names_of, status_of}
-use Rattle.taps_app.specs.FileSessions.{text_of, log_text, IsLoggedOn}
+use Rattle.taps_command.specs.Runs.{World, Ends, Delivers, Judged, Passes, Takes, names_of, status_of}
+use Rattle.taps_app.specs.FileRuns.{RunsFile, IsSessionOfFile}
+use Rattle.taps_app.specs.FileSessions.{text_of}
+use Rattle.taps_app.specs.SessionLogs.{log_text, members_told, outcome_told, IsLoggedOn}
+use Rattle.taps_app.specs.Sessions.{Course, closing}
 use Rattle.taps_app.specs.Sim.{sim, sim_rules, scripted, or_bad_line, PrintsSimulation}
 use Rattle.taps_app.specs.Simulations.{IsSimulation, IsSimulationOf}
 use Rattle.taps_app.specs.Unframe.{unframe, any_bytes, PrintsMessages}
-use Rattle.taps_app.specs.declared.status.Status.{Status}
-use Rattle.taps_app.specs.declared.stop.Stop.{Stop}
-use Rattle.taps_app.specs.declared.stop.Stop.TheVariants.{Refused, FileFault, SinkFault, NoMemory}
-use Rattle.taps_app.specs.declared.two_files.TwoFiles.{TwoFiles}
-use Rattle.taps_app.specs.declared.two_files.TwoFiles.TheVariants.{Nothing, File, Both}
-use Rattle.taps_app.proofs.FileChecks.{file_meaning}
+use Rattle.taps_command.specs.declared.status.Status.{Status}
+use Rattle.taps_command.specs.declared.stop.Stop.{Stop}
+use Rattle.taps_command.specs.declared.stop.Stop.TheVariants.{Refused, FileFault, SinkFault, NoMemory}
+use Rattle.taps_command.specs.declared.two_files.TwoFiles.{TwoFiles}
+use Rattle.taps_command.specs.declared.two_files.TwoFiles.TheVariants.{Nothing, File, Both}
+use Rattle.taps_command.proofs.FileChecks.{file_meaning}
 
 -- a status with a text is that of a written one
 written : (m : Meaning) (names : List (List ℕ)) (old new : World) (e : Result Status Stop) → Ends m names old new e → HasText (status_of e) → Delivers m names answers.Taken old new (status_of e)
@@ -83,7 +84,7 @@ passed m contents name other place before value reading there named judged =
     (record { bytes = judged.bytes; content = rw called judged.content; fits = within.0; passes = within.1 })
 
 -- a command with one file
-abbrev only : FileRules → List Layer → (Option Ready → Net → Net → List ℕ → Status → Type 0) → (Option Ready → Net → Net → Type 0) → Meaning
+abbrev only : FileRules → List Layer → (Option Ready → SocketsState → SocketsState → List ℕ → Status → Type 0) → (Option Ready → SocketsState → SocketsState → Type 0) → Meaning
 only rules shelf P M = record { Value = Option Ready; start = None; readings = only_file rules shelf ∷ []; Prints = P; MayLeave = M }
 
 record IsOnly (rules : FileRules) (shelf : List Layer) (contents : Contents) (file : List ℕ) (value : Option Ready) : Type 0 where
@@ -94,7 +95,7 @@ record IsOnly (rules : FileRules) (shelf : List Layer) (contents : Contents) (fi
   pub passes : checked rules shelf bytes ≡ Ok ready
   pub there : value ≡ Some ready
 
-only_there : (rules : FileRules) (shelf : List Layer) (P : Option Ready → Net → Net → List ℕ → Status → Type 0) (M : Option Ready → Net → Net → Type 0) (contents : Contents) (file : List ℕ) (value : Option Ready)
+only_there : (rules : FileRules) (shelf : List Layer) (P : Option Ready → SocketsState → SocketsState → List ℕ → Status → Type 0) (M : Option Ready → SocketsState → SocketsState → Type 0) (contents : Contents) (file : List ℕ) (value : Option Ready)
     → Passes (only rules shelf P M) contents (file ∷ []) value → IsOnly rules shelf contents file value
 only_there rules shelf P M contents file value (before, name, start, named, judged) =
     let p = passed (only rules shelf P M) contents name file 0 before value (only_file rules shelf) refl named judged in
@@ -102,7 +103,7 @@ only_there rules shelf P M contents file value (before, name, start, named, judg
     record { bytes = p.bytes; content = p.content; fits = p.fits; ready = ready; passes = passes; there = sym (ok_same (Some ready) value given) }
 
 -- a command with two
-abbrev both : (B : Type 0) → FileRules → List Layer → ℕ → (List ℕ → Result B Refusal) → (TwoFiles B → Net → Net → List ℕ → Status → Type 0) → (TwoFiles B → Net → Net → Type 0) → Meaning
+abbrev both : (B : Type 0) → FileRules → List Layer → ℕ → (List ℕ → Result B Refusal) → (TwoFiles B → SocketsState → SocketsState → List ℕ → Status → Type 0) → (TwoFiles B → SocketsState → SocketsState → Type 0) → Meaning
 both B rules shelf limit check P M = record { Value = TwoFiles B; start = Nothing; readings = first_file rules shelf ∷ second_file limit check ∷ []; Prints = P; MayLeave = M }
 
 record AreBoth {B : Type 0} (rules : FileRules) (shelf : List Layer) (limit : ℕ) (check : List ℕ → Result B Refusal) (contents : Contents) (file second : List ℕ) (value : TwoFiles B) : Type 0 where
@@ -118,7 +119,7 @@ record AreBoth {B : Type 0} (rules : FileRules) (shelf : List Layer) (limit : �
   pub second_passes : check second_bytes ≡ Ok given
   pub there : value ≡ Both ready given
 
-both_there : (B : Type 0) (rules : FileRules) (shelf : List Layer) (limit : ℕ) (check : List ℕ → Result B Refusal) (P : TwoFiles B → Net → Net → List ℕ → Status → Type 0) (M : TwoFiles B → Net → Net → Type 0)
+both_there : (B : Type 0) (rules : FileRules) (shelf : List Layer) (limit : ℕ) (check : List ℕ → Result B Refusal) (P : TwoFiles B → SocketsState → SocketsState → List ℕ → Status → Type 0) (M : TwoFiles B → SocketsState → SocketsState → Type 0)
     (contents : Contents) (file second : List ℕ) (value : TwoFiles B) → Passes (both B rules shelf limit check P M) contents (file ∷ second ∷ []) value → AreBoth rules shelf limit check contents file second value
 both_there B rules shelf limit check P M contents file second value (between, name, (before, name', start, named', judged'), named, judged) =
     let first = passed (both B rules shelf limit check P M) contents name' file 0 before between (first_file rules shelf) refl named' judged' in
@@ -142,9 +143,10 @@ both_there B rules shelf limit check P M contents file second value (between, na
     }
 
 -- a log begins with the plan's text
-log_begins : (ready : Ready) (race : List Item) (answer : RaceAnswer) (text : List ℕ) → text ≡ log_text ready race answer → (rest : List ℕ) × (text ≡ text_of ready ++ rest)
+log_begins : (shelf : List Layer) (ready : Ready) (c : Course) (text : List ℕ) → text ≡ log_text shelf ready c → (rest : List ℕ) × (text ≡ text_of ready ++ rest)
 unfolding log_text
-log_begins ready race answer text same = (log_of (reverse race) answer (reverse (closes_of answer)) outcomes.Done, same)
+log_begins shelf ready c text same =
+    (log_lines (reverse c.race) (Some c.answer) (reverse (items_of (closing c.answer ++ c.exchange))) ready.pre.exchange.part (members_told shelf ready c) (outcome_told c.outcome), same)
 
 planned : (rules : FileRules) (shelf : List Layer) (contents : Contents) (file bytes : List ℕ) (ready : Ready) (text rest : List ℕ) (out out' : SinkState) → ((pre : Preconnection) → rules.addresses pre ≡ addresses_for pre)
     → IsContent contents file bytes → checked rules shelf bytes ≡ Ok ready → text ≡ text_of ready ++ rest → Takes answers.Taken out out' text → IsPlanned contents file out out'
@@ -168,13 +170,18 @@ plan_planned shelf file old new s h =
     let prints : PrintsPlan f.ready h.text s = subst (HasRead (λ ready. PrintsPlan ready h.text s)) f.there h.prints in
     planned plan_rules shelf old.files.contents file f.bytes f.ready h.text [] old.out new.out (λ pre. refl) f.content f.passes (prints.0 ∙ sym (append-nil (text_of f.ready))) h.takes
 
+session_run : (shelf : List Layer) (file : List ℕ) (old new : World) (s : Status) → Delivers (run shelf) (file ∷ []) answers.Taken old new s → RunsFile shelf old.files.contents file old.out new.out old.sockets new.sockets s
+session_run shelf file old new s h =
+    let f = only_there run_rules shelf (run shelf).Prints (run shelf).MayLeave old.files.contents file h.value h.comes in
+    let prints : IsLoggedOn shelf f.ready old.sockets new.sockets h.text s = subst (HasRead (λ ready. IsLoggedOn shelf ready old.sockets new.sockets h.text s)) f.there h.prints in
+    record { bytes = f.bytes; content = f.content; fits = f.fits; ready = f.ready; passes = f.passes; text = h.text; logged = prints; takes = h.takes }
+
 run_planned : (shelf : List Layer) (file : List ℕ) (old new : World) (s : Status) → Delivers (run shelf) (file ∷ []) answers.Taken old new s → IsPlanned old.files.contents file old.out new.out
 run_planned shelf file old new s h =
-    let f = only_there run_rules shelf (run shelf).Prints (run shelf).MayLeave old.files.contents file h.value h.comes in
-    let prints : IsLoggedOn f.ready old.net new.net h.text s = subst (HasRead (λ ready. IsLoggedOn ready old.net new.net h.text s)) f.there h.prints in
-    let logged = prints.logged in
-    let (rest, begins) = log_begins f.ready logged.race logged.answer h.text logged.log in
-    planned run_rules shelf old.files.contents file f.bytes f.ready h.text rest old.out new.out (λ pre. refl) f.content f.passes begins h.takes
+    let f = session_run shelf file old new s h in
+    let logged = f.logged in
+    let (rest, begins) = log_begins shelf f.ready logged.course f.text logged.log in
+    planned run_rules shelf old.files.contents file f.bytes f.ready f.text rest old.out new.out (λ pre. refl) f.content f.passes begins f.takes
 
 script_there : (read : Result (List Line) ℕ) (sockets : Scripted) → or_bad_line read ≡ Ok sockets → read ≡ Ok sockets.lines
 script_there (Ok lines) sockets h = let same : at_first lines ≡ sockets = ok_same (at_first lines) sockets h in ap Ok (ap (λ (x : Scripted). x.lines) same)
@@ -185,7 +192,7 @@ simulation : (shelf : List Layer) (file script : List ℕ) (old new : World) (s 
 unfolding scripted
 simulation shelf file script old new s h =
     let f = both_there Scripted sim_rules shelf most_bytes scripted (sim shelf).Prints (sim shelf).MayLeave old.files.contents file script h.value h.comes in
-    let prints : PrintsSimulation (Both f.ready f.given) h.text s = subst (λ (v : TwoFiles Scripted). PrintsSimulation v h.text s) f.there h.prints in
+    let prints : PrintsSimulation shelf (Both f.ready f.given) h.text s = subst (λ (v : TwoFiles Scripted). PrintsSimulation shelf v h.text s) f.there h.prints in
     record {
       bytes = f.bytes;
       content = f.content;
@@ -206,7 +213,7 @@ sim_planned : (shelf : List Layer) (file script : List ℕ) (old new : World) (s
 sim_planned shelf file script old new s h =
     let f = simulation shelf file script old new s h in
     let simulated = f.simulated in
-    let (rest, begins) = log_begins f.ready simulated.race simulated.answer f.text simulated.log in
+    let (rest, begins) = log_begins shelf f.ready simulated.course f.text simulated.log in
     planned sim_rules shelf old.files.contents file f.bytes f.ready f.text rest old.out new.out (λ pre. refl) f.content f.passes begins f.takes
 
 frames : (shelf : List Layer) (file : List ℕ) (old new : World) (s : Status) → Delivers (frame shelf) (file ∷ []) answers.Taken old new s → FramesFile shelf old.files.contents file old.out new.out s
@@ -246,6 +253,10 @@ module _ (shelf : List Layer) (words : List (String Global)) (old new : World) (
     run = λ file same there. run_planned shelf file old new s
         (delivered (run shelf) (file ∷ []) old new err err' s (as_these shelf (names_of words) (codes "run" ∷ file ∷ []) old new err err' s same ran) there);
   }
+
+  pub exchanged : IsSessionOfFile shelf (names_of words) old.files.contents old.out new.out old.sockets new.sockets s
+  exchanged = λ file same there. session_run shelf file old new s
+      (delivered (run shelf) (file ∷ []) old new err err' s (as_these shelf (names_of words) (codes "run" ∷ file ∷ []) old new err err' s same ran) there)
 
   pub simulated : IsSimulationOf shelf (names_of words) old.files.contents old.out new.out s
   simulated = λ file script same there. simulation shelf file script old new s

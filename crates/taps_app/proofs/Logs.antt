@@ -1,105 +1,116 @@
--- From a session that ran to its log.
-use Rattle.std.proofs.Common.{map, append-nil, ◌∷◌, ◌≡◌, ◌++◌, ℕ, List, [], refl, sym, ◌∙◌, ap, subst, inl, inr}
-use Rattle.taps_app.specs.Session.{Held, IsSession, closes_of}
+-- From a session that ran, or did not, to its log.
+use Rattle.std.proofs.Common.{◌≡◌, ◌++◌, ℕ, true, false, List, [], ◌∷◌, Result, Ok, Err, refl, sym, ◌∙◌, ap, subst, inl, inr, map, length, length-append, arith}
+use Rattle.std.specs.Result.{IsErr}
+use Rattle.taps_base.specs.declared.no_memory.NoMemory.{NoMemory}
+use Rattle.taps_framer.specs.Layers.{Layer}
 use Rattle.taps_socket.specs.declared.item.Item.{Item}
-use Rattle.taps_script.specs.declared.line.Line.{Line}
-use Rattle.taps_socket.specs.declared.race_answer.RaceAnswer.{RaceAnswer}
-use Rattle.taps_socket.specs.declared.race_answer.RaceAnswer.TheVariants as answers
+use Rattle.taps_socket.specs.Calls.{Call, items_by, AddEach, HasAdded}
 use Rattle.taps_socket.specs.Net.{Net, with_spare}
-use Rattle.taps_script.specs.OneRace.{GoesOneWay}
-use Rattle.taps_script.specs.ScriptSteps.{Follows}
-use Rattle.taps_script.specs.ScriptNet.{Scripted, net_of, at_first, Represents, StaysScripted}
-use Rattle.taps_socket.specs.Calls.{Call, AddEach, items_by}
-use Rattle.taps_socket.specs.declared.item.Item.TheVariants as item
-use Rattle.taps_app.specs.Nets.{HandsOn}
-use Rattle.taps_app.specs.Meanings.{HasText}
-use Rattle.taps_app.specs.Ready.{Ready}
-use Rattle.taps_app.specs.FileSessions.{rules_of, targets_of, IsSessionOf, status_by, log_text, IsLogged, IsLoggedOn, LeavesSession, IsScriptedRaceOf, IsSimulated}
-use Rattle.taps_app.specs.declared.status.Status.{Status}
-use Rattle.taps_app.specs.declared.status.Status.TheVariants as status
+use Rattle.taps_socket.specs.Shows.{Shows}
+use Rattle.taps_command.specs.Meanings.{IsPrinted}
+use Rattle.taps_command.specs.Nets.{HasRun, SocketsState, IsClosedOnce, uncalled}
+use Rattle.taps_command.specs.Ready.{Ready}
+use Rattle.taps_command.specs.declared.printed.Printed.{Printed}
+use Rattle.taps_command.specs.declared.status.Status.{Status}
+use Rattle.taps_command.proofs.Running.{ran_on, none_closed}
+use Rattle.taps_app.specs.Raced.{EndsSession}
+use Rattle.taps_app.specs.Session.{Held, HoldsSession, IsHeld, held_of, kept_text}
+use Rattle.taps_app.specs.SessionLogs.{log_text, status_after, IsLoggedOn, LeavesSession}
+use Rattle.taps_app.specs.Sessions.{Course}
+use Rattle.taps_app.specs.declared.holding.Ended.{Ended}
+use Rattle.taps_app.proofs.Ending.{AppendLaw}
 
--- the session that ran is one over the plan
-session_of : (ready : Ready) (before after : Net) (s : Held) → IsSession (rules_of ready) (targets_of ready) before after s → IsSessionOf ready after.trace s.race s.answer
-session_of ready before after s held = record { items = rw held.closes at held.items; lawful = held.lawful }
+-- the log of what is kept is the log of the session
+log_is : (shelf : List Layer) (ready : Ready) (c : Course) (s : Held) (text : List ℕ) → s ≡ held_of shelf ready c → text ≡ kept_text ready s → text ≡ log_text shelf ready c
+unfolding log_text
+log_is shelf ready c s text kept is = is ∙ ap (kept_text ready) kept
 
-pub raced_of : (ready : Ready) (before after : Net) (s : Held) → IsSession (rules_of ready) (targets_of ready) before after s → LeavesSession ready before after
-raced_of ready before after s held = inr (s.race, (s.answer, session_of ready before after s held))
+status_is : (shelf : List Layer) (ready : Ready) (c : Course) (s : Held) (status : Status) → s ≡ held_of shelf ready c → status ≡ status_after s.answer s.outcome → status ≡ status_after c.answer c.outcome
+status_is shelf ready c s status kept is = is ∙ ap (λ (v : Held). status_after v.answer v.outcome) kept
 
-pub not_raced : (ready : Ready) (before after : Net) → after ≡ with_spare before after.spare → LeavesSession ready before after
-not_raced ready before after same = inl same
+pub logged : {S : Type 0} (Becomes : S → List Call → S → Type 0) (a b : S) (n n' : Net) (shelf : List Layer) (ready : Ready) (s : Held) (printed : Printed)
+    → printed.text.items ≡ kept_text ready s → printed.status ≡ status_after s.answer s.outcome
+    → HasRun Becomes a b n n' (HoldsSession shelf ready (Ok s)) → HasRun Becomes a b n n' (IsPrinted (IsLoggedOn shelf ready) (LeavesSession shelf ready) (Ok printed))
+logged Becomes a b n n' shelf ready s printed text status r =
+    ran_on Becomes a b n n' (HoldsSession shelf ready (Ok s)) (IsPrinted (IsLoggedOn shelf ready) (LeavesSession shelf ready) (Ok printed)) r
+    (λ new h. record {
+      prints = record {
+        course = h.held.course;
+        calls = h.held.calls;
+        session = h.held.session;
+        seen = h.held.seen;
+        log = log_is shelf ready h.held.course s printed.text.items h.held.kept text;
+        status = status_is shelf ready h.held.course s printed.status h.held.kept status;
+      };
+      leaves = h.leaves;
+      closed_once = h.closed_once;
+    })
 
-pub text_by : (answer : RaceAnswer) → HasText (status_by answer)
-text_by (answers.Ready leaf socket at) = tt
-text_by answers.NoCandidate = tt
-text_by answers.AllFailed = tt
-text_by answers.Timeout = tt
-text_by answers.Closed = tt
-text_by answers.SocketFault = tt
+-- without memory for it there is no log
+pub unlogged : {S : Type 0} (Becomes : S → List Call → S → Type 0) (a b : S) (n n' : Net) (shelf : List Layer) (ready : Ready) (held : Result Held NoMemory) (none : NoMemory)
+    → HasRun Becomes a b n n' (HoldsSession shelf ready held) → HasRun Becomes a b n n' (IsPrinted (IsLoggedOn shelf ready) (LeavesSession shelf ready) (Err none))
+unlogged Becomes a b n n' shelf ready held none r =
+    ran_on Becomes a b n n' (HoldsSession shelf ready held) (IsPrinted (IsLoggedOn shelf ready) (LeavesSession shelf ready) (Err none)) r
+    (λ new h. record { prints = tt; leaves = h.leaves; closed_once = h.closed_once })
 
--- a status of a fault is that of a faulted race
-fault_by : (answer : RaceAnswer) → status_by answer ≡ status.SocketFault → answer ≡ answers.SocketFault
-fault_by (answers.Ready leaf socket at) h = cc
-fault_by answers.NoCandidate h = cc
-fault_by answers.AllFailed h = cc
-fault_by answers.Timeout h = cc
-fault_by answers.Closed h = cc
-fault_by answers.SocketFault h = refl
+-- sockets that were not touched are as they are left by no session
+untouched : (shelf : List Layer) (ready : Ready) (n : Net) (new : SocketsState) → new ≡ uncalled n → LeavesSession shelf ready (uncalled n) new
+untouched shelf ready n new same = inl (subst (λ (v : SocketsState). v ≡ record (uncalled n) { net = with_spare n v.net.spare }) (sym same) refl)
 
-pub logged_of : (ready : Ready) (before after : Net) (s : Held) (text : List ℕ) (st : Status) → IsSession (rules_of ready) (targets_of ready) before after s
-    → text ≡ log_text ready s.race s.answer → st ≡ status_by s.answer → IsLoggedOn ready before after text st
-logged_of ready before after s text st held log by =
+pub not_held : {S : Type 0} (Becomes : S → List Call → S → Type 0) (a b : S) (n n' : Net) (shelf : List Layer) (ready : Ready) (none : NoMemory)
+    → n.trace ≡ [] → HasRun Becomes a b n n' (λ old new. new ≡ old) → HasRun Becomes a b n n' (HoldsSession shelf ready (Err none))
+not_held Becomes a b n n' shelf ready none fresh r =
+    ran_on Becomes a b n n' (λ old new. new ≡ old) (HoldsSession shelf ready (Err none)) r
+    (λ new same. record {
+      held = tt;
+      leaves = untouched shelf ready n new same;
+      closed_once = none_closed new.net.trace (ap (λ (v : SocketsState). v.net.trace) same ∙ fresh);
+    })
+
+pub not_printed : {S : Type 0} (Becomes : S → List Call → S → Type 0) (a b : S) (n n' : Net) (shelf : List Layer) (ready : Ready) (none : NoMemory)
+    → n.trace ≡ [] → HasRun Becomes a b n n' (λ old new. new ≡ old) → HasRun Becomes a b n n' (IsPrinted (IsLoggedOn shelf ready) (LeavesSession shelf ready) (Err none))
+not_printed Becomes a b n n' shelf ready none fresh r =
+    unlogged Becomes a b n n' shelf ready (Err none) none (not_held Becomes a b n n' shelf ready none fresh r)
+
+-- no item was added, so that no call was made
+no_items : (items t : List Item) → items ++ t ≡ t → items ≡ []
+no_items [] t e = refl
+no_items (i ∷ items) t e = absurd (omega (arith, ap length e, length-append (i ∷ items) t))
+
+no_calls : (calls : List Call) (items : List Item) → items ≡ [] → AddEach calls items → calls ≡ []
+no_calls [] items e each = refl
+no_calls (call ∷ calls) items e each = let wrong : items_by call ∷ map items_by calls ≡ [] = subst (λ v. map items_by (call ∷ calls) ≡ map (λ i. i ∷ []) v) e each in cc
+
+-- only room was made
+roomy : (shelf : List Layer) (ready : Ready) (n n' : Net) (calls : List Call) → calls ≡ [] → n' ≡ with_spare n n'.spare → LeavesSession shelf ready (uncalled n) (record { net = n'; calls = calls })
+roomy shelf ready n n' calls none e = inl (subst (λ (c : List Call). record { net = n'; calls = c } ≡ record (uncalled n) { net = with_spare n n'.spare }) (sym none) (ap (λ (v : Net). record { net = v; calls = [] }) e))
+
+pub none_ended : {S : Type 0} (Becomes : S → List Call → S → Type 0) (a b : S) (n n' : Net) (shelf : List Layer) (ready : Ready) (none : NoMemory)
+    → n.trace ≡ [] → n' ≡ with_spare n n'.spare → Becomes a [] b → ((calls : List Call) → Becomes a calls b → Shows n calls n') → HasRun Becomes a b n n' (EndsSession shelf ready (Err none))
+none_ended Becomes a b n n' shelf ready none fresh e becomes shows =
     record {
-      logged = record { race = s.race; answer = s.answer; session = session_of ready before after s held; log = log; status = by };
-      fault = λ faulted. held.fault (fault_by s.answer (sym by ∙ faulted));
+      calls = [];
+      becomes = becomes;
+      shows = shows [] becomes;
+      holds = record {
+        ended = tt;
+        leaves = roomy shelf ready n n' [] refl e;
+        closed_once = none_closed n'.trace (ap (λ (v : Net). v.trace) e ∙ fresh);
+      };
     }
 
--- the calls of the race follow the script as all calls do, of which the last is the close of the winner's socket, if there is one
-race_calls : (lines : List Line) (answer : RaceAnswer) (race : List Item) (calls : List Call) → AddEach calls (closes_of answer ++ race) → Follows lines calls
-    → (others : List Call) × AddEach others race × Follows lines others
-race_calls lines (answers.Ready leaf socket at) race [] each follows = cc
-race_calls lines (answers.Ready leaf socket at) race (call ∷ calls) each follows =
-    let both : items_by call ∷ map items_by calls ≡ (item.Closed socket ∷ []) ∷ map (λ i. i ∷ []) race = each in
-    let rest : map items_by calls ≡ map (λ i. i ∷ []) race = cc in
-    (calls, rest, follows.1)
-race_calls lines answers.NoCandidate race calls each follows = (calls, each, follows)
-race_calls lines answers.AllFailed race calls each follows = (calls, each, follows)
-race_calls lines answers.Timeout race calls each follows = (calls, each, follows)
-race_calls lines answers.Closed race calls each follows = (calls, each, follows)
-race_calls lines answers.SocketFault race calls each follows = (calls, each, follows)
+pub none_raced : {S : Type 0} (Becomes : S → List Call → S → Type 0) (a a' b : S) (n n0 n' : Net) (shelf : List Layer) (ready : Ready) (none : NoMemory)
+    → AppendLaw Becomes → n.trace ≡ [] → n0 ≡ with_spare n n0.spare → Becomes a [] a' → n' ≡ n0 → HasAdded Becomes a' b n0.trace n'.trace
+    → ((calls : List Call) → Becomes a calls b → Shows n calls n') → HasRun Becomes a b n n' (EndsSession shelf ready (Err none))
+none_raced Becomes a a' b n n0 n' shelf ready none on fresh e first same added shows =
+    let trace : n'.trace ≡ n0.trace = ap (λ (v : Net). v.trace) same in
+    let calls : added.calls ≡ [] = no_calls added.calls added.items (no_items added.items n0.trace (sym added.added ∙ trace)) added.each in
+    let becomes : Becomes a' [] b = subst (λ (c : List Call). Becomes a' c b) calls added.becomes in
+    let all : Becomes a [] b = on a a' b [] [] first becomes in
+    none_ended Becomes a b n n' shelf ready none fresh (subst (λ (v : Net). v ≡ with_spare n v.spare) (sym same) e) all shows
 
--- before the first call scripted sockets represent no calls
-first_represents : (lines : List Line) → Represents (at_first lines) []
-first_represents lines = record { follows = tt; clock = refl; trace = refl; written = λ q. refl; read = λ q. refl }
-
-pub starts_empty : (sockets : Scripted) → sockets ≡ at_first sockets.lines → sockets.trace ≡ []
-starts_empty sockets first = ap (λ (s : Scripted). s.trace) first
-
--- the calls on sockets that began by the script follow it
-follows_all : (before after : Scripted) (calls : List Call) → before ≡ at_first before.lines → StaysScripted before calls after → Follows before.lines calls
-follows_all before after calls first stays =
-    let start : Represents before [] = subst (λ (s : Scripted). Represents s []) (sym first) (first_represents before.lines) in
-    let now : Represents after (calls ++ []) = stays.represents [] start in
-    let there : Follows before.lines (calls ++ []) = subst (λ (l : List Line). Follows l (calls ++ [])) stays.lines now.follows in
-    subst (λ (c : List Call). Follows before.lines c) (append-nil calls) there
-
-pub simulated_of : (ready : Ready) (before after : Scripted) (text : List ℕ) (st : Status) → before ≡ at_first before.lines
-    → HandsOn StaysScripted before after (net_of before) (net_of after) → GoesOneWay before.lines
-    → IsLoggedOn ready (net_of before) (net_of after) text st → IsSimulated ready before.lines text st
-simulated_of ready before after text st first handed one_way on =
-    let logged : IsLogged ready after.trace text st = on.logged in
-    let none : before.trace ≡ [] = starts_empty before first in
-    let all : after.trace ≡ handed.items = handed.added ∙ (ap (λ (t : List Item). handed.items ++ t) none ∙ append-nil handed.items) in
-    let items : handed.items ≡ closes_of logged.answer ++ logged.race = sym all ∙ logged.session.items in
-    let each : AddEach handed.calls (closes_of logged.answer ++ logged.race) = subst (λ (i : List Item). AddEach handed.calls i) items handed.each in
-    let (calls, added, follows) = race_calls before.lines logged.answer logged.race handed.calls each (follows_all before after handed.calls first handed.becomes) in
-    let there : Follows before.lines (calls ++ []) = subst (λ (c : List Call). Follows before.lines c) (sym (append-nil calls)) follows in
-    let scripted : IsScriptedRaceOf ready before.lines calls logged.race logged.answer = record { lawful = logged.session.lawful; each = added; follows = there } in
-    record {
-      calls = calls;
-      race = logged.race;
-      answer = logged.answer;
-      scripted = scripted;
-      only = λ others other another also. one_way (rules_of ready) 0 (targets_of ready) [] calls others logged.race other logged.answer another scripted also;
-      log = logged.log;
-      status = logged.status;
-    }
+-- the same where an answer says that memory ran out
+pub not_held_by : {S : Type 0} (Becomes : S → List Call → S → Type 0) (a b : S) (n n' : Net) (shelf : List Layer) (ready : Ready) (r : Result Held NoMemory)
+    → IsErr r → n.trace ≡ [] → HasRun Becomes a b n n' (λ old new. new ≡ old) → HasRun Becomes a b n n' (HoldsSession shelf ready r)
+not_held_by Becomes a b n n' shelf ready (Ok s) e fresh h = absurd (let wrong : false ≡ true = e in cc)
+not_held_by Becomes a b n n' shelf ready (Err none) e fresh h = not_held Becomes a b n n' shelf ready none fresh h

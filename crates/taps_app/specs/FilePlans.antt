@@ -7,10 +7,10 @@ use Rattle.taps_endpoint.specs.declared.address.Address.{Address}
 use Rattle.taps_endpoint.specs.DerivedAddresses.{derived_addresses}
 use Rattle.taps_preconnection.specs.File.{preconnection_of}
 use Rattle.taps_preconnection.specs.declared.preconnection.Preconnection.{Preconnection}
-use Rattle.taps_app.specs.Meanings.{HasText}
-use Rattle.taps_app.specs.Runs.{Takes}
+use Rattle.taps_command.specs.Meanings.{HasText}
+use Rattle.taps_command.specs.Runs.{Takes}
 use Rattle.taps_app.specs.FileSessions.{text_of}
-use Rattle.taps_app.specs.declared.status.Status.{Status}
+use Rattle.taps_command.specs.declared.status.Status.{Status}
 
 -- FILE's bytes, where observable, have this meaning, and where the sink's bytes are observable too, what it took begins
 -- with the text of the meaning's plan over its derived addresses

@@ -4,13 +4,13 @@ use Rattle.taps_base.specs.Files.{Contents, IsContent}
 use Rattle.taps_base.specs.Sinks.{SinkState}
 use Rattle.taps_base.specs.declared.sink.SinkAnswer.TheVariants as answers
 use Rattle.taps_framer.specs.Layers.{Layer}
-use Rattle.taps_app.specs.Checks.{checked, most_bytes, most_framed}
+use Rattle.taps_command.specs.Checks.{checked, most_bytes, most_framed}
 use Rattle.taps_app.specs.Frame.{frame_rules, IsFramed}
-use Rattle.taps_app.specs.Meanings.{HasText}
-use Rattle.taps_app.specs.Ready.{Ready}
-use Rattle.taps_app.specs.Runs.{Takes}
+use Rattle.taps_command.specs.Meanings.{HasText}
+use Rattle.taps_command.specs.Ready.{Ready}
+use Rattle.taps_command.specs.Runs.{Takes}
 use Rattle.taps_app.specs.Unframe.{IsDecoded}
-use Rattle.taps_app.specs.declared.status.Status.{Status}
+use Rattle.taps_command.specs.declared.status.Status.{Status}
 
 -- FILE's bytes, where observable, pass their checks, and where the sink's bytes are observable too, what it took are
 -- the frames of the file's messages

@@ -1,7 +1,7 @@
 -- The table of commands (local).
 use Rattle.std.specs.Prelude.{ℕ, List, Option, Some, None, codes, bytes_eq, if◌then◌else◌}
 use Rattle.taps_framer.specs.Layers.{Layer}
-use Rattle.taps_app.specs.Meanings.{Meaning}
+use Rattle.taps_command.specs.Meanings.{Meaning}
 use Rattle.taps_app.specs.Plan.{plan}
 use Rattle.taps_app.specs.Sim.{sim}
 use Rattle.taps_app.specs.Run.{run}

@@ -1,13 +1,13 @@
 -- `plan FILE` (local).
 use Rattle.std.specs.Prelude.{◌≡◌, ℕ, List}
 use Rattle.taps_framer.specs.Layers.{Layer}
-use Rattle.taps_app.specs.Checks.{FileRules, any_file, addresses_for}
+use Rattle.taps_command.specs.Checks.{FileRules, any_file, addresses_for}
 use Rattle.taps_app.specs.FileSessions.{text_of}
-use Rattle.taps_app.specs.Meanings.{Meaning}
-use Rattle.taps_app.specs.OneFile.{one_file, LeavesAlone}
-use Rattle.taps_app.specs.Ready.{Ready}
-use Rattle.taps_app.specs.declared.status.Status.{Status}
-use Rattle.taps_app.specs.declared.status.Status.TheVariants.{Done}
+use Rattle.taps_command.specs.Meanings.{Meaning}
+use Rattle.taps_command.specs.OneFile.{one_file, LeavesAlone}
+use Rattle.taps_command.specs.Ready.{Ready}
+use Rattle.taps_command.specs.declared.status.Status.{Status}
+use Rattle.taps_command.specs.declared.status.Status.TheVariants.{Done}
 
 -- every FILE is supported, and the addresses of its remotes are derived
 abbrev pub plan_rules : FileRules

@@ -6,16 +6,16 @@ use Rattle.taps_script.specs.Scripts.{script_of}
 use Rattle.taps_script.specs.declared.line.Line.{Line}
 use Rattle.taps_text.specs.declared.refusal.Refusal.{Refusal}
 use Rattle.taps_text.specs.declared.refusal.Refusal.TheVariants as refusal
-use Rattle.taps_app.specs.Checks.{FileRules, is_quiet, addresses_for, first_file, second_file, most_bytes}
-use Rattle.taps_app.specs.Meanings.{Meaning}
-use Rattle.taps_app.specs.FileSessions.{IsSimulated}
-use Rattle.taps_app.specs.declared.status.Status.{Status}
-use Rattle.taps_app.specs.declared.two_files.TwoFiles.{TwoFiles}
-use Rattle.taps_app.specs.declared.two_files.TwoFiles.TheVariants.{Nothing, File, Both}
+use Rattle.taps_command.specs.Checks.{FileRules, has_one_member, addresses_for, first_file, second_file, most_bytes}
+use Rattle.taps_command.specs.Meanings.{Meaning}
+use Rattle.taps_app.specs.ScriptedSessions.{IsSimulated}
+use Rattle.taps_command.specs.declared.status.Status.{Status}
+use Rattle.taps_command.specs.declared.two_files.TwoFiles.{TwoFiles}
+use Rattle.taps_command.specs.declared.two_files.TwoFiles.TheVariants.{Nothing, File, Both}
 
--- FILE has no messages so far, and the addresses of its remotes are derived
+-- FILE has no clones or priorities so far, and the addresses of its remotes are derived
 abbrev pub sim_rules : FileRules
-sim_rules = record { supports = is_quiet; addresses = addresses_for }
+sim_rules = record { supports = has_one_member; addresses = addresses_for }
 
 -- the sockets of these lines before the first call, or the number of the first bad line
 abbrev pub or_bad_line : Result (List Line) ℕ → Result Scripted Refusal
@@ -26,11 +26,11 @@ or_bad_line (Err number) = Err (refusal.Script number)
 unfoldable pub scripted : List ℕ → Result Scripted Refusal
 scripted bytes = or_bad_line (script_of bytes)
 
--- the log of the one race that goes by the script
-abbrev pub PrintsSimulation : TwoFiles Scripted → List ℕ → Status → Type 0
-PrintsSimulation Nothing text s = ⊥
-PrintsSimulation (File ready) text s = ⊥
-PrintsSimulation (Both ready sockets) text s = IsSimulated ready sockets.lines text s
+-- the log of the one session that goes by the script
+abbrev pub PrintsSimulation : List Layer → TwoFiles Scripted → List ℕ → Status → Type 0
+PrintsSimulation shelf Nothing text s = ⊥
+PrintsSimulation shelf (File ready) text s = ⊥
+PrintsSimulation shelf (Both ready sockets) text s = IsSimulated shelf ready sockets.lines text s
 
 -- two files, of which the simulation is written; the sockets are not used
 abbrev pub sim : List Layer → Meaning
@@ -38,7 +38,7 @@ sim shelf = record {
   Value = TwoFiles Scripted;
   start = Nothing;
   readings = first_file sim_rules shelf ∷ second_file most_bytes scripted ∷ [];
-  Prints = λ value old new text s. PrintsSimulation value text s;
+  Prints = λ value old new text s. PrintsSimulation shelf value text s;
   MayLeave = λ value old new. new ≡ old;
 }
 

@@ -6,16 +6,16 @@ use Rattle.taps_base.specs.declared.sink.SinkAnswer.TheVariants as answers
 use Rattle.taps_framer.specs.Layers.{Layer}
 use Rattle.taps_script.specs.Scripts.{script_of}
 use Rattle.taps_script.specs.declared.line.Line.{Line}
-use Rattle.taps_app.specs.Checks.{checked, most_bytes}
-use Rattle.taps_app.specs.Meanings.{HasText}
-use Rattle.taps_app.specs.Ready.{Ready}
-use Rattle.taps_app.specs.Runs.{Takes}
-use Rattle.taps_app.specs.FileSessions.{IsSimulated}
+use Rattle.taps_command.specs.Checks.{checked, most_bytes}
+use Rattle.taps_command.specs.Meanings.{HasText}
+use Rattle.taps_command.specs.Ready.{Ready}
+use Rattle.taps_command.specs.Runs.{Takes}
+use Rattle.taps_app.specs.ScriptedSessions.{IsSimulated}
 use Rattle.taps_app.specs.Sim.{sim_rules}
-use Rattle.taps_app.specs.declared.status.Status.{Status}
+use Rattle.taps_command.specs.declared.status.Status.{Status}
 
 -- FILE's and SCRIPT's bytes, where observable, pass their checks, and where the sink's bytes are observable too, what
--- it took is the log of the one lawful race over the plan in which each item is what the script answers to it
+-- it took is the log of the one session over the plan each call of which is what the script answers
 pub record IsSimulation (shelf : List Layer) (contents : Contents)
     (file script : List ℕ) (out out' : SinkState) (s : Status) : Type 0 where
   pub bytes : List ℕ
@@ -29,7 +29,7 @@ pub record IsSimulation (shelf : List Layer) (contents : Contents)
   pub lines : List Line
   pub script_passes : script_of script_bytes ≡ Ok lines
   pub text : List ℕ
-  pub simulated : IsSimulated ready lines text s
+  pub simulated : IsSimulated shelf ready lines text s
   pub takes : Takes answers.Taken out out' text
 
 -- so it is for each status that has a text

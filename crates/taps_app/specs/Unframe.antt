@@ -3,14 +3,14 @@ use Rattle.std.specs.Prelude.{◌≡◌, ◌≤◌, ℕ, Bool, List, [], ◌∷�
 use Rattle.taps_frame_text.specs.UnframeLines.{IsUnframed}
 use Rattle.taps_framer.specs.Layers.{Layer}
 use Rattle.taps_text.specs.declared.refusal.Refusal.{Refusal}
-use Rattle.taps_app.specs.Checks.{first_file, second_file, most_framed}
+use Rattle.taps_command.specs.Checks.{first_file, second_file, most_framed}
 use Rattle.taps_app.specs.Frame.{frame_rules, status_if}
-use Rattle.taps_app.specs.Meanings.{Meaning}
-use Rattle.taps_app.specs.Ready.{Ready}
-use Rattle.taps_app.specs.Places.{chain_of}
-use Rattle.taps_app.specs.declared.status.Status.{Status}
-use Rattle.taps_app.specs.declared.two_files.TwoFiles.{TwoFiles}
-use Rattle.taps_app.specs.declared.two_files.TwoFiles.TheVariants.{Nothing, File, Both}
+use Rattle.taps_command.specs.Meanings.{Meaning}
+use Rattle.taps_command.specs.Ready.{Ready}
+use Rattle.taps_command.specs.Places.{chain_of}
+use Rattle.taps_command.specs.declared.status.Status.{Status}
+use Rattle.taps_command.specs.declared.two_files.TwoFiles.{TwoFiles}
+use Rattle.taps_command.specs.declared.two_files.TwoFiles.TheVariants.{Nothing, File, Both}
 
 -- BYTES of any content
 abbrev pub any_bytes : List ℕ → Result (List ℕ) Refusal

@@ -1,18 +1,15 @@
 ghost use Rattle.std.specs.Prelude.{◌≡◌, ◌≤◌, [], ◌∷◌, ◌++◌, length, map, IfOk, OnOk};
-ghost use Rattle.taps_app.specs.Checks.{most_framed};
+ghost use Rattle.taps_command.specs.Checks.{most_framed};
 ghost use Rattle.taps_app.specs.Frame.{bodies_of, IsFramed, status_if};
-ghost use Rattle.taps_app.specs.Meanings.{HasText};
-ghost use Rattle.taps_app.specs.Places.{IsOnShelf};
-ghost use Rattle.taps_app.specs.Shelves.{layers_on};
+ghost use Rattle.taps_command.specs.Meanings.{HasText};
+ghost use Rattle.taps_command.specs.Places.{IsOnShelf};
+ghost use Rattle.taps_command.specs.Shelves.{layers_on};
 ghost use Rattle.taps_app.specs.Unframe.{IsDecoded};
 
-use crate::layers::Layers;
-use crate::printed::Printed;
-use crate::ready::Ready;
-use crate::shelf::{Shelf, chain};
 use crate::status::status_if;
 use std::alloc::Global;
 use taps_base::{Body, NoMemory};
+use taps_command::{Layers, Printed, Ready, Shelf, chain};
 use taps_frame_text::{FrameText, frame_text, unframe_text};
 use taps_framer::Framer;
 use taps_preconnection::MessageSpec;
@@ -53,7 +50,7 @@ pub fn print_messages<L: Layers>(
     Ok(printed(framed))
 }
 
-#[tactic(auto, using(crate::proofs::Places::text_if))]
+#[tactic(auto, using(crate::proofs::Framed::text_if))]
 fn printed(framed: FrameText) -> Printed
     ensures text { result.text ≡ framed.text }
     ensures status { result.status ≡ status_if framed.whole }

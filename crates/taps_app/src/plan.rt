@@ -1,14 +1,12 @@
 ghost use Rattle.std.specs.Prelude.{◌≡◌, ◌<◌, map, IfOk, Ok};
-ghost use Rattle.taps_app.specs.Meanings.{HasText};
+ghost use Rattle.taps_command.specs.Meanings.{HasText};
 ghost use Rattle.taps_app.specs.Plan.{PrintsPlan};
 ghost use Rattle.taps_app.specs.FileSessions.{text_of, IsPlanFor};
 
-use crate::printed::Printed;
-use crate::ready::Ready;
-use crate::status::Status;
 use std::alloc::Global;
 use taps_base::NoMemory;
 use taps_candidate::{Leaf, Plan, build_plan, plan_string};
+use taps_command::{Printed, Ready, Status};
 use taps_property::Role;
 use taps_socket::Target;
 

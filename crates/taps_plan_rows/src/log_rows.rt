@@ -1,10 +1,11 @@
 use std::alloc::Global;
 use std::process::Abort;
 use std::test::Fail;
+use taps_base::Body;
 use taps_endpoint::Address;
 use taps_socket::{How, Item, RaceAnswer, Target};
 use taps_stack::Stack;
-use taps_text::{Outcome, put_log};
+use taps_text::{Log, MemberLog, Outcome, put_log};
 
 const TARGET: Target = Target {
     stack: Stack::Tcp,
@@ -62,7 +63,19 @@ fn ends<R: Abort>(
 ) -> Result<(), Fail> {
     let after = [Item::Closed { socket: 1 }];
     let mut text = Vec::new(alloc);
-    put_log(&mut text, race, answer, &after, outcome).map_err(|_| "memory")?;
+    let members = [MemberLog {
+        sent: 0,
+        heard: Vec::new(alloc),
+    }];
+    let log = Log {
+        before: race,
+        answer: Some(answer),
+        after: &after,
+        members: &members,
+        part: None,
+        outcome,
+    };
+    put_log(&mut text, &log).map_err(|_| "memory")?;
     assert_eq!(rt; text.as_slice(), wanted.as_bytes());
     Ok(())
 }
@@ -91,4 +104,37 @@ fn any_other_log_ends_with_its_answer(rt: HostRuntime) -> Result<(), Fail> {
         Outcome::Done,
         "begin 0\nclosed\n",
     )
+}
+
+// What two members sent and heard, in parts of two bytes, without a race.
+const HEARD_LOG: &str =
+    "close 1\nsent 0 2\npart 0 0 6162\nreceived 0 0 63\nreceived 0 1 -\nsent 1 0\nexpired 0 1\n";
+
+#[test]
+fn a_log_of_what_was_heard(rt: HostRuntime) -> Result<(), Fail> {
+    let mut heard = Vec::new(rt.alloc());
+    heard.push(Body::from_slice(rt.alloc(), b"abc").map_err(|_| "memory")?)?;
+    heard.push(Body::from_slice(rt.alloc(), b"").map_err(|_| "memory")?)?;
+    let members = [
+        MemberLog { sent: 2, heard },
+        MemberLog {
+            sent: 0,
+            heard: Vec::new(rt.alloc()),
+        },
+    ];
+    let log = Log {
+        before: &[],
+        answer: None,
+        after: &[Item::Closed { socket: 1 }],
+        members: &members,
+        part: Some(2),
+        outcome: Outcome::Expired {
+            member: 0,
+            number: 1,
+        },
+    };
+    let mut text = Vec::new(rt.alloc());
+    put_log(&mut text, &log).map_err(|_| "memory")?;
+    assert_eq!(rt; text.as_slice(), HEARD_LOG.as_bytes());
+    Ok(())
 }

@@ -22,6 +22,8 @@ mod row;
 #[cfg(test)]
 mod script_rows;
 #[cfg(test)]
+mod session_rows;
+#[cfg(test)]
 mod sim_rows;
 #[cfg(test)]
 mod sweep;

@@ -10,15 +10,7 @@ const NOT_YET: Row<'static> = Row {
 };
 
 // Files that ask for what cannot be held yet, which a plan does not ask.
-const EARLY: [Row<'static>; 13] = [
-    Row {
-        bytes: b"[[remote]]\naddress = \"127.0.0.1:9000\"\n[[message]]\ntext = \"a\"\n",
-        ..NOT_YET
-    },
-    Row {
-        bytes: b"[[remote]]\naddress = \"127.0.0.1:9000\"\n[exchange]\nexpect = 1\n",
-        ..NOT_YET
-    },
+const EARLY: [Row<'static>; 9] = [
     Row {
         bytes: b"[[remote]]\naddress = \"127.0.0.1:9000\"\n[exchange]\nclones = 1\n",
         ..NOT_YET
@@ -33,22 +25,12 @@ const EARLY: [Row<'static>; 13] = [
         ..NOT_YET
     },
     Row {
-        bytes: b"framers = [\"nope\"]\n[[remote]]\naddress = \"127.0.0.1:9000\"\n[[message]]\ntext = \"a\"\n",
-        ..NOT_YET
-    },
-    Row {
-        words: &["run", "a.toml"],
-        bytes: b"[[remote]]\naddress = \"127.0.0.1:9000\"\n[[message]]\ntext = \"a\"\n",
+        bytes: b"framers = [\"nope\"]\n[[remote]]\naddress = \"127.0.0.1:9000\"\n[exchange]\nclones = 1\n",
         ..NOT_YET
     },
     Row {
         words: &["run", "a.toml"],
         bytes: b"[exchange]\nrole = \"listen\"\n",
-        ..NOT_YET
-    },
-    Row {
-        words: &["run", "a.toml"],
-        bytes: b"[[remote]]\naddress = \"127.0.0.1:9000\"\n[exchange]\nexpect = 1\n",
         ..NOT_YET
     },
     Row {
@@ -62,12 +44,12 @@ const EARLY: [Row<'static>; 13] = [
         ..NOT_YET
     },
     Row {
-        bytes: b"[[remote]]\naddress = \"127.0.0.1:9000\"\n[[message]]\ntext = \"a\"\n",
+        bytes: b"[[remote]]\naddress = \"127.0.0.1:9000\"\n[exchange]\nclones = 1\n",
         faults: &[1],
         ..NOT_YET
     },
     Row {
-        bytes: b"[[remote]]\naddress = \"127.0.0.1:9000\"\n[[message]]\ntext = \"a\"\n",
+        bytes: b"[[remote]]\naddress = \"127.0.0.1:9000\"\n[exchange]\nclones = 1\n",
         out: "leaves 1\n0 any tcp 127.0.0.1:9000 +0\n",
         ..PLAIN
     },

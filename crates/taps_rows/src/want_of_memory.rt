@@ -17,21 +17,42 @@ enum Seen {
     NoMemoryBehindTheRace,
 }
 
-// A race on the sockets, which may find no memory at any place, and leaves no socket open.
-fn race_once<R: Abort>(rt: &R, alloc: Global) -> Result<Seen, NoMemory> {
+// A file whose session runs on sockets by a script, and its log.
+#[derive(Clone, Copy)]
+struct Case<'a> {
+    file: &'a [u8],
+    script: &'a [u8],
+    log: &'a str,
+}
+
+const RACE: Case<'static> = Case {
+    file: TWO,
+    script: b"leaf 1 completes 60\n",
+    log: LATE_WINNER,
+};
+
+// A message that comes back.
+const ECHO: Case<'static> = Case {
+    file: b"framers = [\"varint\"]\n[[remote]]\naddress = \"127.0.0.1:9000\"\n[[message]]\ntext = \"hi\"\n[exchange]\nexpect = 1\n",
+    script: b"leaf 0 completes 5\npeer echo\n",
+    log: "leaves 1\n0 any tcp 127.0.0.1:9000 +0\nbegin 0\nstart 0 socket 0 at 0\nwait 30000 completed 0 at 5\nready 0\nclose 0\nsent 0 1\nreceived 0 0 6869\ndone\n",
+};
+
+// A session on the sockets, which may find no memory at any place, and leaves no socket open.
+fn run_once<R: Abort>(rt: &R, alloc: Global, case: &Case<'_>) -> Result<Seen, NoMemory> {
     let words = owned(alloc, &["run", "a.toml"])?;
     let mut files = MemoryFiles::new(alloc, &[])?;
-    files.add("a.toml", TWO)?;
+    files.add("a.toml", case.file)?;
     let mut out = MemorySink::new(alloc, 2000, None)?;
     let mut err = MemorySink::new(alloc, 200, None)?;
-    let mut net = sockets(rt, alloc)?;
+    let mut net = sockets(rt, alloc, case.script)?;
     let shelf = nine(alloc)?;
     let status = run(
         alloc, &words, &mut files, &mut out, &mut err, &mut net, &shelf,
     );
     assert!(rt; each_is_closed_once(net.items()));
     if status == Status::Done {
-        assert_eq!(rt; out.bytes(), LATE_WINNER.as_bytes());
+        assert_eq!(rt; out.bytes(), case.log.as_bytes());
         assert!(rt; err.bytes().is_empty());
         return Ok(Seen::Answer);
     }
@@ -45,10 +66,10 @@ fn race_once<R: Abort>(rt: &R, alloc: Global) -> Result<Seen, NoMemory> {
     }
 }
 
-fn sockets<R: Abort>(rt: &R, alloc: Global) -> Result<ScriptSockets, NoMemory>
+fn sockets<R: Abort>(rt: &R, alloc: Global, script: &[u8]) -> Result<ScriptSockets, NoMemory>
     ensures { IfOk result (λ net. net.trace ≡ []) }
 {
-    match ScriptSockets::read(alloc, b"leaf 1 completes 60\n") {
+    match ScriptSockets::read(alloc, script) {
         Ok(net) => Ok(net),
         Err(why) => {
             assert_eq!(rt; why, ScriptError::NoMemory);
@@ -64,7 +85,19 @@ fn is_line_or_none(bytes: &[u8]) -> bool {
 // Prints what was seen, for the check that lets each allocation fail.
 #[test]
 fn no_socket_is_left_open(rt: HostRuntime) -> Result<(), Fail> {
-    match race_once(&rt, rt.alloc()) {
+    match run_once(&rt, rt.alloc(), &RACE) {
+        Ok(Seen::Answer) => println!(rt; "seen: answer")?,
+        Ok(Seen::NoMemory) => println!(rt; "seen: no memory")?,
+        Ok(Seen::NoMemoryBehindTheRace) => println!(rt; "seen: no memory behind the race")?,
+        Err(NoMemory) => println!(rt; "seen: no memory")?,
+    }
+    Ok(())
+}
+
+// Prints what was seen, for the check that lets each allocation fail.
+#[test]
+fn no_socket_is_left_open_by_an_exchange(rt: HostRuntime) -> Result<(), Fail> {
+    match run_once(&rt, rt.alloc(), &ECHO) {
         Ok(Seen::Answer) => println!(rt; "seen: answer")?,
         Ok(Seen::NoMemory) => println!(rt; "seen: no memory")?,
         Ok(Seen::NoMemoryBehindTheRace) => println!(rt; "seen: no memory behind the race")?,

@@ -7,4 +7,5 @@ pub mod AnswerLines
 pub mod OutcomeLines
 pub mod BodyLines
 pub mod Parts
+pub mod MemberLines
 pub mod Log

@@ -1,14 +1,7 @@
-use crate::checks::FileRules;
 use crate::framing::print_frames;
-use crate::layers::Layers;
-use crate::nets::vouch_untouched;
-use crate::one_file::OneFile;
-use crate::printed::Printed;
-use crate::ready::Ready;
-use crate::shelf::Shelf;
-use crate::stop::Unready;
 use std::alloc::Global;
 use taps_base::{List, NoMemory};
+use taps_command::{FileRules, Layers, OneFile, Printed, Ready, Shelf, Unready, vouch_untouched};
 use taps_endpoint::Address;
 use taps_preconnection::Preconnection;
 use taps_socket::Sockets;
@@ -32,7 +25,7 @@ impl FileRules for Frame {
 
 impl<L: Layers> OneFile<L> for Frame {
     ghost use Rattle.taps_app.specs.Frame.{IsFramed};
-    ghost use Rattle.taps_app.specs.OneFile.{LeavesAlone};
+    ghost use Rattle.taps_command.specs.OneFile.{LeavesAlone};
 
     ghost Prints = { λ ready old new text s. IsFramed L.layers ready text s };
 

@@ -1,14 +1,9 @@
-use crate::checks::{FileRules, derive};
-use crate::layers::Layers;
-use crate::nets::vouch_untouched;
-use crate::one_file::OneFile;
 use crate::plan::print_plan;
-use crate::printed::Printed;
-use crate::ready::Ready;
-use crate::shelf::Shelf;
-use crate::stop::Unready;
 use std::alloc::Global;
 use taps_base::{List, NoMemory};
+use taps_command::{
+    FileRules, Layers, OneFile, Printed, Ready, Shelf, Unready, derive, vouch_untouched,
+};
 use taps_endpoint::Address;
 use taps_preconnection::Preconnection;
 use taps_socket::Sockets;
@@ -31,7 +26,7 @@ impl FileRules for Plan {
 }
 
 impl<L: Layers> OneFile<L> for Plan {
-    ghost use Rattle.taps_app.specs.OneFile.{LeavesAlone};
+    ghost use Rattle.taps_command.specs.OneFile.{LeavesAlone};
     ghost use Rattle.taps_app.specs.Plan.{PrintsPlan};
 
     ghost Prints = { λ ready old new text s. PrintsPlan ready text s };

@@ -1,13 +1,9 @@
-use crate::checks::{FileRules, derive, is_initiate, is_quiet};
-use crate::layers::Layers;
-use crate::one_file::OneFile;
-use crate::printed::Printed;
-use crate::ready::Ready;
 use crate::session_log::session_text;
-use crate::shelf::Shelf;
-use crate::stop::Unready;
 use std::alloc::Global;
 use taps_base::{List, NoMemory};
+use taps_command::{
+    FileRules, Layers, OneFile, Printed, Ready, Shelf, Unready, derive, has_one_member, is_initiate,
+};
 use taps_endpoint::Address;
 use taps_preconnection::Preconnection;
 use taps_socket::Sockets;
@@ -21,7 +17,7 @@ impl FileRules for Run {
     ghost rules = { run_rules };
 
     fn supports(pre: &Preconnection) -> bool {
-        is_quiet(pre) && is_initiate(pre.exchange.role)
+        has_one_member(pre) && is_initiate(pre.exchange.role)
     }
 
     fn addresses(alloc: Global, pre: &Preconnection) -> Result<List<Address>, Unready> {
@@ -30,18 +26,18 @@ impl FileRules for Run {
 }
 
 impl<L: Layers> OneFile<L> for Run {
-    ghost use Rattle.taps_app.specs.FileSessions.{IsLoggedOn, LeavesSession};
+    ghost use Rattle.taps_app.specs.SessionLogs.{IsLoggedOn, LeavesSession};
 
-    ghost Prints = { IsLoggedOn };
+    ghost Prints = { IsLoggedOn L.layers };
 
-    ghost MayLeave = { LeavesSession };
+    ghost MayLeave = { LeavesSession L.layers };
 
     fn print<N: Sockets>(
         alloc: Global,
-        _shelf: &Shelf<'_>,
+        shelf: &Shelf<'_>,
         ready: &Ready,
         net: &mut N,
     ) -> Result<Printed, NoMemory> {
-        session_text(alloc, ready, net)
+        session_text::<L, N>(alloc, shelf, ready, net)
     }
 }

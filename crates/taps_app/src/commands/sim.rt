@@ -1,19 +1,15 @@
 ghost use Rattle.std.specs.Prelude.{Ok, IfOk};
-ghost use Rattle.taps_app.specs.Checks.{second_value, HasFirst, HasSecond};
-ghost use Rattle.taps_app.specs.Meanings.{Returns};
+ghost use Rattle.taps_command.specs.Checks.{second_value, HasFirst, HasSecond};
+ghost use Rattle.taps_command.specs.Meanings.{Returns};
 ghost use Rattle.taps_app.specs.Sim.{scripted, AreAtFirst};
 
-use crate::checks::{FileRules, MOST_BYTES, check_first, derive, is_quiet};
-use crate::command::Command;
-use crate::layers::Layers;
-use crate::nets::vouch_untouched;
-use crate::printed::Printed;
 use crate::session_log::simulate;
-use crate::shelf::Shelf;
-use crate::stop::Unready;
-use crate::two_files::TwoFiles;
 use std::alloc::Global;
 use taps_base::{List, NoMemory};
+use taps_command::{
+    Command, FileRules, Layers, MOST_BYTES, Printed, Shelf, TwoFiles, Unready, check_first, derive,
+    has_one_member, vouch_untouched,
+};
 use taps_endpoint::Address;
 use taps_preconnection::Preconnection;
 use taps_script::{ScriptError, ScriptSockets};
@@ -29,7 +25,7 @@ impl FileRules for Sim {
     ghost rules = { sim_rules };
 
     fn supports(pre: &Preconnection) -> bool {
-        is_quiet(pre)
+        has_one_member(pre)
     }
 
     fn addresses(alloc: Global, pre: &Preconnection) -> Result<List<Address>, Unready> {
@@ -38,7 +34,7 @@ impl FileRules for Sim {
 }
 
 impl<L: Layers> Command<L> for Sim {
-    ghost use Rattle.taps_app.specs.Checks.{HasBoth};
+    ghost use Rattle.taps_command.specs.Checks.{HasBoth};
     ghost use Rattle.taps_app.specs.Sim.{sim, AreAtFirst};
 
     type Value = TwoFiles<ScriptSockets>;
@@ -79,13 +75,13 @@ impl<L: Layers> Command<L> for Sim {
 
     fn print<N: Sockets>(
         alloc: Global,
-        _shelf: &Shelf<'_>,
+        shelf: &Shelf<'_>,
         value: TwoFiles<ScriptSockets>,
         net: &mut N,
     ) -> Result<Printed, NoMemory> {
         vouch_untouched::<N>(net);
         match value {
-            TwoFiles::Both(ready, sockets) => simulate(alloc, &ready, sockets),
+            TwoFiles::Both(ready, sockets) => simulate::<L>(alloc, shelf, &ready, sockets),
             TwoFiles::Nothing | TwoFiles::File(_) => unreachable!(),
         }
     }

@@ -1,27 +1,23 @@
 ghost use Rattle.std.specs.Prelude.{◌≤◌, length, Ok, IfOk};
-ghost use Rattle.taps_app.specs.Checks.{second_value, most_framed, HasFirst, HasSecond};
-ghost use Rattle.taps_app.specs.Meanings.{Returns};
+ghost use Rattle.taps_command.specs.Checks.{second_value, most_framed, HasFirst, HasSecond};
+ghost use Rattle.taps_command.specs.Meanings.{Returns};
 ghost use Rattle.taps_app.specs.Unframe.{any_bytes, AreFew};
 
-use crate::checks::{MOST_BYTES, MOST_FRAMED, check_first};
-use crate::command::Command;
 use crate::commands::frame::Frame;
 use crate::framing::print_messages;
-use crate::layers::Layers;
-use crate::nets::vouch_untouched;
-use crate::printed::Printed;
-use crate::shelf::Shelf;
-use crate::stop::Unready;
-use crate::two_files::TwoFiles;
 use std::alloc::Global;
 use taps_base::{Body, NoMemory};
+use taps_command::{
+    Command, Layers, MOST_BYTES, MOST_FRAMED, Printed, Shelf, TwoFiles, Unready, check_first,
+    vouch_untouched,
+};
 use taps_socket::Sockets;
 
 /// `unframe FILE BYTES` writes the messages that the bytes decode to, by the framers of the file.
 pub struct Unframe;
 
 impl<L: Layers> Command<L> for Unframe {
-    ghost use Rattle.taps_app.specs.Checks.{HasBoth};
+    ghost use Rattle.taps_command.specs.Checks.{HasBoth};
     ghost use Rattle.taps_app.specs.Unframe.{unframe, AreFew};
 
     type Value = TwoFiles<Body>;

@@ -1,6 +1,11 @@
-use Rattle.std.proofs.Common.{refl}
-use Rattle.taps_socket.proofs.Added.{added_none}
+use Rattle.taps_app.proofs.Logs.{not_held_by}
 use Rattle.taps_app.proofs.holding.hold.Goals as goal
 
-pub returns-in_err-racer-clause-becomes : goal.returns-in_err-racer-clause-becomes
-returns-in_err-racer-clause-becomes g c = added_none g.N.Sockets.Becomes _ _ _ _ refl (g.met.N.Sockets.becomes_itself c.args.net.now)
+pub returns-in_err-targets : goal.returns-in_err-targets
+returns-in_err-targets g c = record { ran = not_held_by g.N.Sockets.Becomes _ _ _ _ g.L.Layers.layers c.args.ready.now _ c.from_residual.ensures.0 c.requires.fresh c.vouch_untouched.ensures }
+
+pub returns-in_err-chain : goal.returns-in_err-chain
+returns-in_err-chain g c = record { ran = not_held_by g.N.Sockets.Becomes _ _ _ _ g.L.Layers.layers c.args.ready.now _ c.from_residual-in_err-chain.ensures.0 c.requires.fresh c.vouch_untouched.ensures }
+
+pub returns-in_err-racer : goal.returns-in_err-racer
+returns-in_err-racer g c = record { ran = not_held_by g.N.Sockets.Becomes _ _ _ _ g.L.Layers.layers c.args.ready.now _ c.from_residual-in_err-racer.ensures.0 c.requires.fresh c.vouch_untouched.ensures }

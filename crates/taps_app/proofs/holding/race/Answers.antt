@@ -1,4 +1,4 @@
-use Rattle.taps_app.proofs.Raced.{raced}
+use Rattle.taps_app.proofs.Racing.{raced}
 use Rattle.taps_app.proofs.holding.race.Goals as goal
 
 pub returns-in-Ok-clause-raced : goal.returns-in-Ok-clause-raced

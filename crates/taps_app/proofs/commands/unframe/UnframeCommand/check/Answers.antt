@@ -1,9 +1,9 @@
 use Rattle.std.proofs.Common.{◌≡◌, ◌≤◌, ◌<◌, ℕ, zero, suc, List, Some, slice_get, length, refl, arith}
 use Rattle.taps_framer.specs.Layers.{Layer}
-use Rattle.taps_app.specs.Checks.{most_framed}
-use Rattle.taps_app.specs.Meanings.{Reading}
+use Rattle.taps_command.specs.Checks.{most_framed}
+use Rattle.taps_command.specs.Meanings.{Reading}
 use Rattle.taps_app.specs.Unframe.{unframe}
-use Rattle.taps_app.specs.declared.two_files.TwoFiles.{TwoFiles}
+use Rattle.taps_command.specs.declared.two_files.TwoFiles.{TwoFiles}
 use Rattle.taps_app.proofs.commands.unframe.UnframeCommand.check.Goals as goal
 
 -- the second file has no more bytes than are read

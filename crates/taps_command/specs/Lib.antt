@@ -1,0 +1,11 @@
+pub mod Codes
+pub mod Nets
+pub mod Meanings
+pub mod Shelves
+pub mod Places
+pub mod Ready
+pub mod Checks
+pub mod OneFile
+pub mod Telling
+pub mod Runs
+pub mod Asked
