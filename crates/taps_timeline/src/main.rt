@@ -2,22 +2,20 @@
 //! Without LOG it reads its input. The picture is an SVG; with `--text` it is drawn in characters.
 #![tactic(auto)]
 
-mod line;
 mod race;
-mod reader;
 mod scale;
 mod svg;
 mod text;
 mod words;
 
 use race::Race;
-use reader::read_line;
 use std::alloc::Global;
 use std::env;
 use std::io::Read;
 use std::process::ExitCode;
 use svg::draw_svg;
-use taps_base::{Body, FileAnswer, Files, NoMemory, RealFiles, Sink, StdSink};
+use taps_base::{Body, FileAnswer, Files, NoMemory, RealFiles};
+use taps_log::read_line;
 use text::draw_text;
 
 /// How many bytes a log may have.
@@ -55,6 +53,21 @@ struct Request {
     log: Option<String>,
 }
 
+impl Request {
+    // Whether a word may follow those before it.
+    fn takes(&mut self, word: String) -> bool {
+        if self.log.is_some() {
+            return false;
+        }
+        if word.as_str() == "--text" && !self.in_characters {
+            self.in_characters = true;
+        } else {
+            self.log = Some(word);
+        }
+        true
+    }
+}
+
 fn main(rt: HostRuntime) -> ExitCode {
     let status = match drawn(&rt) {
         Ok(status) => status,
@@ -80,22 +93,32 @@ fn tell(rt: &HostRuntime, status: &Status) {
 }
 
 fn drawn(rt: &HostRuntime) -> Result<Status, NoMemory> {
-    let alloc = rt.alloc();
-    let Some(request) = asked(rt)? else {
-        return Ok(Status::Usage);
-    };
-    let bytes = match log_of(rt, &request)? {
-        Some(bytes) => bytes,
-        None => return Ok(Status::FileFault),
-    };
-    let mut race = Race::new(alloc);
-    if let Some(number) = take_lines(&mut race, bytes.bytes())? {
-        return Ok(Status::BadLine(number));
+    match asked(rt) {
+        Some(request) => drawn_as(rt, &request),
+        None => Ok(Status::Usage),
     }
-    let picture = if request.in_characters {
-        draw_text(alloc, &race)?
+}
+
+fn drawn_as(rt: &HostRuntime, request: &Request) -> Result<Status, NoMemory> {
+    match log_of(rt, request)? {
+        Some(log) => drawn_from(rt, request.in_characters, log.bytes()),
+        None => Ok(Status::FileFault),
+    }
+}
+
+fn drawn_from(rt: &HostRuntime, in_characters: bool, log: &[u8]) -> Result<Status, NoMemory> {
+    let mut race = Race::new(rt.alloc());
+    match take_lines(&mut race, log)? {
+        Some(number) => Ok(Status::BadLine(number)),
+        None => shown(rt, in_characters, &race),
+    }
+}
+
+fn shown(rt: &HostRuntime, in_characters: bool, race: &Race) -> Result<Status, NoMemory> {
+    let picture = if in_characters {
+        draw_text(rt.alloc(), race)?
     } else {
-        draw_svg(alloc, &race)?
+        draw_svg(rt.alloc(), race)?
     };
     match print!(rt; "{picture}") {
         Ok(()) => Ok(Status::Done),
@@ -104,40 +127,42 @@ fn drawn(rt: &HostRuntime) -> Result<Status, NoMemory> {
 }
 
 // Takes each line of a log. The number of the first that is none is the answer; a line with no end is none.
-fn take_lines(race: &mut Race, bytes: &[u8]) -> Result<Option<u64>, NoMemory> {
+fn take_lines(race: &mut Race, log: &[u8]) -> Result<Option<u64>, NoMemory> {
     let mut number = 0u64;
-    for piece in bytes.split_inclusive(|b| *b == b'\n') {
+    for piece in log.split_inclusive(|b| *b == b'\n') {
         number = number.saturating_add(1);
-        let [text @ .., b'\n'] = piece else {
+        if !take_line(race, piece)? {
             return Ok(Some(number));
-        };
-        let Some(line) = read_line(text) else {
-            return Ok(Some(number));
-        };
-        race.take(&line, text)?;
+        }
     }
     Ok(None)
 }
 
-fn asked(rt: &HostRuntime) -> Result<Option<Request>, NoMemory> {
+// Whether it is a line of a log, with its end.
+fn take_line(race: &mut Race, piece: &[u8]) -> Result<bool, NoMemory> {
+    let [text @ .., b'\n'] = piece else {
+        return Ok(false);
+    };
+    match read_line(text) {
+        Some(line) => {
+            race.take(&line, text)?;
+            Ok(true)
+        }
+        None => Ok(false),
+    }
+}
+
+fn asked(rt: &HostRuntime) -> Option<Request> {
     let mut request = Request {
         in_characters: false,
         log: None,
     };
-    let Ok(args) = env::args(rt) else {
-        return Ok(None);
-    };
-    for word in args.skip(1) {
-        if request.log.is_some() {
-            return Ok(None);
-        }
-        if word.as_str() == "--text" && !request.in_characters {
-            request.in_characters = true;
-        } else {
-            request.log = Some(word);
+    for word in env::args(rt).ok()?.skip(1) {
+        if !request.takes(word) {
+            return None;
         }
     }
-    Ok(Some(request))
+    Some(request)
 }
 
 // The bytes of the log, unless it cannot be read.

@@ -1,7 +1,7 @@
 // What a log tells of each leaf and of the race as a whole.
-use crate::line::{Cause, Ending, How, Line, Start};
 use std::alloc::Global;
 use taps_base::NoMemory;
+use taps_log::{Cause, Ending, How, Line, Start};
 
 /// How a leaf's attempt ended.
 #[derive(Clone, Copy)]
@@ -200,6 +200,14 @@ impl Race {
         None
     }
 
+    /// When this leaf would have been tried, if it is the next one.
+    pub fn due_of(&self, bar: &Bar) -> Option<u64> {
+        match self.due() {
+            Some((leaf, due)) if leaf == bar.leaf && is_unstarted(bar.mark) => Some(due),
+            _ => None,
+        }
+    }
+
     /// The last moment that is drawn.
     pub fn last(&self) -> u64 {
         match self.due() {
@@ -207,6 +215,10 @@ impl Race {
             _ => self.now,
         }
     }
+}
+
+fn is_unstarted(mark: Mark) -> bool {
+    matches!(mark, Mark::Unstarted)
 }
 
 /// How many bytes of a text are shown.

@@ -1,7 +1,8 @@
 // The timeline in characters.
-use crate::race::{Bar, Mark, Race};
+use crate::race::{Bar, Mark, Note, Race};
 use crate::scale::place_of;
-use crate::words::{end_of, whole_end};
+use crate::words::{put_end_of, whole_end};
+use itoa::Buffer;
 use std::alloc::Global;
 use taps_base::NoMemory;
 
@@ -9,35 +10,65 @@ const WIDTH: u64 = 56;
 
 const COLUMNS: usize = 57;
 
+// Where the cells of a row begin.
+const NAME: usize = 10;
+
 /// Draws the race with one line a leaf.
 pub fn draw_text(alloc: Global, race: &Race) -> Result<String, NoMemory> {
     let mut text = String::new(alloc);
-    put_row(&mut text, "ms", &moments(alloc, race)?, "")?;
-    for bar in &race.bars {
-        let name = format!(in alloc; "leaf {}", bar.leaf)?;
-        let end = end_of(alloc, race, bar)?;
-        put_row(
-            &mut text,
-            name.as_str(),
-            &cells_of(alloc, race, bar)?,
-            end.as_str(),
-        )?;
-    }
-    for note in &race.notes {
-        write!(text, "at {}: {}\n", note.at, note.text)?;
-    }
-    write!(text, "end: {}\n", whole_end(race))?;
+    put_drawing(&mut text, race)?;
     Ok(text)
 }
 
-// A name, the cells, and what is said behind them.
-fn put_row(text: &mut String, name: &str, cells: &[u8], end: &str) -> Result<(), NoMemory> {
-    let mut row = String::new(*text.allocator());
-    write!(row, "{name:<10}")?;
-    for cell in cells {
-        row.push(char::from(*cell))?;
+fn put_drawing(text: &mut String, race: &Race) -> Result<(), NoMemory> {
+    put_moments(text, race)?;
+    for bar in &race.bars {
+        put_bar(text, race, bar)?;
     }
-    write!(row, "  {end}")?;
+    for note in &race.notes {
+        put_note(text, note)?;
+    }
+    write!(text, "end: {}\n", whole_end(race))?;
+    Ok(())
+}
+
+fn put_bar(text: &mut String, race: &Race, bar: &Bar) -> Result<(), NoMemory> {
+    let mut row = String::new(*text.allocator());
+    fill_bar(&mut row, race, bar)?;
+    put_row(text, &row)
+}
+
+// A leaf's number, its attempt, and how it ended.
+fn fill_bar(row: &mut String, race: &Race, bar: &Bar) -> Result<(), NoMemory> {
+    write!(row, "leaf {}", bar.leaf)?;
+    pad(row)?;
+    put_attempt(row, race, bar)?;
+    row.push_str("  ")?;
+    put_end_of(row, race, bar)
+}
+
+// Spaces up to the place where the cells begin.
+fn pad(row: &mut String) -> Result<(), NoMemory> {
+    for _ in row.len()..NAME {
+        row.push(' ')?;
+    }
+    Ok(())
+}
+
+fn put_attempt(row: &mut String, race: &Race, bar: &Bar) -> Result<(), NoMemory> {
+    for cell in cells_of(race, bar) {
+        row.push(char::from(cell))?;
+    }
+    Ok(())
+}
+
+fn put_note(text: &mut String, note: &Note) -> Result<(), NoMemory> {
+    write!(text, "at {}: {}\n", note.at, note.text)?;
+    Ok(())
+}
+
+// A row without the spaces at its end.
+fn put_row(text: &mut String, row: &str) -> Result<(), NoMemory> {
     text.push_str(row.trim_end())?;
     text.push('\n')?;
     Ok(())
@@ -48,26 +79,38 @@ fn column(race: &Race, at: u64) -> usize {
 }
 
 // A leaf's attempt from its start to its end, with a `+` where a wait ended meanwhile.
-fn cells_of(alloc: Global, race: &Race, bar: &Bar) -> Result<Vec<u8>, NoMemory> {
-    let mut cells = vec![in alloc; b' '; COLUMNS]?;
-    if let Mark::Unstarted = bar.mark {
-        return Ok(cells);
+fn cells_of(race: &Race, bar: &Bar) -> [u8; COLUMNS] {
+    let mut cells = [b' '; COLUMNS];
+    match bar.mark {
+        Mark::Unstarted => {}
+        _ => draw_attempt(&mut cells, race, bar),
     }
+    cells
+}
+
+fn draw_attempt(cells: &mut [u8], race: &Race, bar: &Bar) {
     let first = column(race, bar.start);
     let last = column(race, bar.end);
+    draw_line(cells, first, last);
+    draw_waits(cells, race, bar);
+    put(cells, first, b'|');
+    put(cells, last, sign_of(bar.mark));
+}
+
+fn draw_line(cells: &mut [u8], first: usize, last: usize) {
     for (place, cell) in cells.iter_mut().enumerate() {
         if first <= place && place <= last {
             *cell = b'-';
         }
     }
+}
+
+fn draw_waits(cells: &mut [u8], race: &Race, bar: &Bar) {
     for at in &race.waits {
         if bar.start < *at && *at < bar.end {
-            put(&mut cells, column(race, *at), b'+');
+            put(cells, column(race, *at), b'+');
         }
     }
-    put(&mut cells, first, b'|');
-    put(&mut cells, last, sign_of(bar.mark));
-    Ok(cells)
 }
 
 fn put(cells: &mut [u8], place: usize, sign: u8) {
@@ -86,37 +129,50 @@ fn sign_of(mark: Mark) -> u8 {
 }
 
 // The moments above the bars, as far as there is room for each.
-fn moments(alloc: Global, race: &Race) -> Result<Vec<u8>, NoMemory> {
-    let mut cells = Vec::new(alloc);
-    for at in sorted_moments(alloc, race)? {
-        let place = column(race, at);
-        if cells.is_empty() || cells.len() < place {
-            for _ in cells.len()..place {
-                cells.push(b' ')?;
-            }
-            let digits = format!(in alloc; "{at}")?;
-            cells.extend_from_slice(digits.as_bytes())?;
-        }
+fn put_moments(text: &mut String, race: &Race) -> Result<(), NoMemory> {
+    let mut row = String::from_str(*text.allocator(), "ms        ")?;
+    fill_moments(&mut row, race)?;
+    put_row(text, &row)
+}
+
+fn fill_moments(row: &mut String, race: &Race) -> Result<(), NoMemory> {
+    let moments = sorted_moments(*row.allocator(), race)?;
+    for at in &moments {
+        put_moment(row, *at, column(race, *at).saturating_add(NAME))?;
     }
-    Ok(cells)
+    Ok(())
+}
+
+// A moment's digits at a place, if it is the first or the place is past the one before.
+fn put_moment(row: &mut String, at: u64, place: usize) -> Result<(), NoMemory> {
+    if NAME < row.len() && place <= row.len() {
+        return Ok(());
+    }
+    for _ in row.len()..place {
+        row.push(' ')?;
+    }
+    let mut buffer = Buffer::new();
+    row.push_str(buffer.format(at))?;
+    Ok(())
 }
 
 /// The moments that are told, each once, in order.
 pub fn sorted_moments(alloc: Global, race: &Race) -> Result<Vec<u64>, NoMemory> {
     let mut moments = Vec::new(alloc);
-    moments.push(race.begin)?;
-    moments.push(race.last())?;
-    moments.push(race.now)?;
-    for bar in &race.bars {
-        if !matches!(bar.mark, Mark::Unstarted) {
-            moments.push(bar.start)?;
-            moments.push(bar.end)?;
-        }
-    }
-    for at in &race.waits {
-        moments.push(*at)?;
-    }
+    gather(&mut moments, race)?;
     moments.sort()?;
     moments.dedup();
     Ok(moments)
+}
+
+fn gather(moments: &mut Vec<u64>, race: &Race) -> Result<(), NoMemory> {
+    moments.extend_from_slice(&[race.begin, race.last(), race.now])?;
+    moments.extend_from_slice(&race.waits)?;
+    for bar in &race.bars {
+        match bar.mark {
+            Mark::Unstarted => {}
+            _ => moments.extend_from_slice(&[bar.start, bar.end])?,
+        }
+    }
+    Ok(())
 }

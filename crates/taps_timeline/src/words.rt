@@ -1,29 +1,37 @@
 // What is said of a leaf's end, in words.
-use crate::line::{Cause, Ending};
 use crate::race::{Bar, Mark, Race};
-use std::alloc::Global;
 use taps_base::NoMemory;
+use taps_log::{Cause, Ending};
 
-/// How a leaf's attempt ended.
-pub fn end_of(alloc: Global, race: &Race, bar: &Bar) -> Result<String, NoMemory> {
-    let text = match bar.mark {
-        Mark::Unstarted => unstarted(alloc, race, bar)?,
-        Mark::Running => String::from_str(alloc, "open")?,
-        Mark::Refused(cause) => format!(in alloc; "start failed: {}", cause_of(cause))?,
-        Mark::Broke(cause) => format!(in alloc; "failed: {}", cause_of(cause))?,
-        Mark::Completed => String::from_str(alloc, "established")?,
-        Mark::Ready => String::from_str(alloc, "ready")?,
-        Mark::Closed => format!(in alloc; "closed: {}", why_closed(race))?,
-    };
-    Ok(text)
+/// Appends how a leaf's attempt ended.
+pub fn put_end_of(text: &mut String, race: &Race, bar: &Bar) -> Result<(), NoMemory> {
+    match race.due_of(bar) {
+        Some(due) => put_due(text, due),
+        None => put_words(text, words_of(race, bar.mark)),
+    }
 }
 
-fn unstarted(alloc: Global, race: &Race, bar: &Bar) -> Result<String, NoMemory> {
-    match race.due() {
-        Some((leaf, due)) if leaf == bar.leaf => {
-            Ok(format!(in alloc; "due at {due}, never started")?)
-        }
-        _ => Ok(String::from_str(alloc, "never started")?),
+fn put_due(text: &mut String, due: u64) -> Result<(), NoMemory> {
+    write!(text, "due at {due}, never started")?;
+    Ok(())
+}
+
+fn put_words(text: &mut String, words: (&str, &str)) -> Result<(), NoMemory> {
+    text.push_str(words.0)?;
+    text.push_str(words.1)?;
+    Ok(())
+}
+
+// How an attempt ended, and why.
+fn words_of(race: &Race, mark: Mark) -> (&'static str, &'static str) {
+    match mark {
+        Mark::Unstarted => ("never started", ""),
+        Mark::Running => ("open", ""),
+        Mark::Refused(cause) => ("start failed: ", cause_of(cause)),
+        Mark::Broke(cause) => ("failed: ", cause_of(cause)),
+        Mark::Completed => ("established", ""),
+        Mark::Ready => ("ready", ""),
+        Mark::Closed => ("closed: ", why_closed(race)),
     }
 }
 

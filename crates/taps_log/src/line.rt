@@ -1,5 +1,5 @@
 /// Why a socket or a start failed, as a log says it.
-#[derive(Clone, Copy, Debug, PartialEq, Eq)]
+#[derive(Clone, Copy)]
 pub enum Cause {
     Refused,
     Unreachable,
@@ -9,7 +9,7 @@ pub enum Cause {
 }
 
 /// How a wait ended.
-#[derive(Clone, Copy, Debug, PartialEq, Eq)]
+#[derive(Clone, Copy)]
 pub enum How {
     /// Nothing was told of a socket.
     Reached,
@@ -22,7 +22,7 @@ pub enum How {
 }
 
 /// What became of a leaf's start.
-#[derive(Clone, Copy, Debug, PartialEq, Eq)]
+#[derive(Clone, Copy)]
 pub enum Start {
     /// It has this socket, which is pending.
     Socket(u64),
@@ -31,7 +31,7 @@ pub enum Start {
 }
 
 /// Why a race or a session ended without success, where the line is one word or two.
-#[derive(Clone, Copy, Debug, PartialEq, Eq)]
+#[derive(Clone, Copy)]
 pub enum Ending {
     NoCandidate,
     AllFailed,
@@ -46,7 +46,7 @@ pub enum Ending {
 }
 
 /// What one line of a log says. Moments and gaps are in milliseconds; texts are as they stand.
-#[derive(Clone, Copy, Debug)]
+#[derive(Clone, Copy)]
 pub enum Line<'a> {
     /// The plan has so many leaves.
     Leaves(u64),

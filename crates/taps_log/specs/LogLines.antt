@@ -1,16 +1,16 @@
 -- The text of each line of a log, without the end of the line. Numbers are decimal.
 use Rattle.std.specs.Prelude.{ℕ, List, ◌++◌, codes, Option, None, Some}
 use Rattle.std.specs.Fmt.{decimal}
-use Rattle.taps_timeline.specs.declared.line.Cause.{Cause}
-use Rattle.taps_timeline.specs.declared.line.Cause.TheVariants as causes
-use Rattle.taps_timeline.specs.declared.line.How.{How}
-use Rattle.taps_timeline.specs.declared.line.How.TheVariants as ends
-use Rattle.taps_timeline.specs.declared.line.Start.{Start}
-use Rattle.taps_timeline.specs.declared.line.Start.TheVariants as starts
-use Rattle.taps_timeline.specs.declared.line.Ending.{Ending}
-use Rattle.taps_timeline.specs.declared.line.Ending.TheVariants as endings
-use Rattle.taps_timeline.specs.declared.line.Line.{Line}
-use Rattle.taps_timeline.specs.declared.line.Line.TheVariants as lines
+use Rattle.taps_log.specs.declared.line.Cause.{Cause}
+use Rattle.taps_log.specs.declared.line.Cause.TheVariants as causes
+use Rattle.taps_log.specs.declared.line.How.{How}
+use Rattle.taps_log.specs.declared.line.How.TheVariants as ends
+use Rattle.taps_log.specs.declared.line.Start.{Start}
+use Rattle.taps_log.specs.declared.line.Start.TheVariants as starts
+use Rattle.taps_log.specs.declared.line.Ending.{Ending}
+use Rattle.taps_log.specs.declared.line.Ending.TheVariants as endings
+use Rattle.taps_log.specs.declared.line.Line.{Line}
+use Rattle.taps_log.specs.declared.line.Line.TheVariants as lines
 
 -- the word of a cause
 abbrev pub cause_word : Cause → List ℕ
