@@ -144,7 +144,8 @@ fn first_branch(branches: &[Level]) -> usize
     requires { 0 < length branches.now }
     ensures within { result < length branches.now }
     ensures first { (k : _) (d : _) → k < length branches.now → comes_before
-        (tree.branch_key (slice_index_or branches.now k d)) (tree.branch_key (slice_index_or branches.now result d)) ≡ false }
+        (tree.branch_key (slice_index_or branches.now k d))
+        (tree.branch_key (slice_index_or branches.now result d)) ≡ false }
 {
     let mut first = 0;
     for place in 0..branches.len() {

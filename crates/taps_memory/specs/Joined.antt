@@ -31,7 +31,8 @@ met_by socket e = record e { acceptor = Some socket }
 abbrev pub connections : List Item → List Ends
 connections [] = []
 connections (item.Started leaf target socket at ∷ earlier) =
-    connections earlier ++ record { listener = listener_for earlier target; starter = Some socket; acceptor = None } ∷ []
+    connections earlier
+    ++ record { listener = listener_for earlier target; starter = Some socket; acceptor = None } ∷ []
 connections (item.Accepted listener socket at ∷ earlier) =
     change_first (λ e. awaits e listener) (met_by socket) (connections earlier)
 connections (_ ∷ earlier) = connections earlier

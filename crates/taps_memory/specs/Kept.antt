@@ -36,7 +36,8 @@ without_told _ pending = pending
 
 -- so many sockets were given, so many of them to listen; no other is named; all carry streams; the pending ones and
 -- those that listen are those of the items; and the last reported time fits
-pub record IsKept (trace : List Item) (told count listened : ℕ) (pending : List ℕ) (listening : List Listening) : Type 0 where
+pub record IsKept (trace : List Item) (told count listened : ℕ) (pending : List ℕ)
+    (listening : List Listening) : Type 0 where
   pub fits : told < 2 ^ 63
   pub given_are : count ≡ length (given trace)
   pub listened_are : listened ≡ length (listeners trace)
@@ -50,7 +51,8 @@ pub record IsKept (trace : List Item) (told count listened : ℕ) (pending : Lis
 pub record IsSound (l : Link) : Type 0 where
   pub starter : l.starter.end.taken ≤ length l.starter.end.written
   pub acceptor : l.acceptor.end.taken ≤ length l.acceptor.end.written
-  pub unmet : has_no_socket l.acceptor.end ≡ true → (l.acceptor ≡ new_side l.acceptor.end.capacity None) × (l.starter.end.taken ≡ 0)
+  pub unmet : has_no_socket l.acceptor.end ≡ true →
+      (l.acceptor ≡ new_side l.acceptor.end.capacity None) × (l.starter.end.taken ≡ 0)
   pub apart : (s : ℕ) → is_at l.starter.end s ≡ true → is_at l.acceptor.end s ≡ false
 
 -- each is, and no socket is an end of two

@@ -77,7 +77,8 @@ pub record IsAsRoomy (len capacity len' capacity' : ℕ) : Type 0 where
 
 -- the connection at a place was changed so, and no other
 abbrev pub IsChanged : (Link → Link) → ℕ → List Link → List Link → Type 0
-IsChanged change place before after = (l : Link) → slice_get before place ≡ Some l → after ≡ slice_set before place (change l)
+IsChanged change place before after =
+    (l : Link) → slice_get before place ≡ Some l → after ≡ slice_set before place (change l)
 
 -- a socket is that of an end of one of these connections
 abbrev pub has_link : List Link → ℕ → Bool

@@ -49,8 +49,17 @@ state_of m = record { trace = m.trace; clock = m.told; turns = m.turns; pairs = 
 
 -- before the first call
 abbrev pub at_first : Setting → Memory
-at_first setting =
-    record { setting = setting; trace = []; told = 0; spare = 0; faults = 0; turns = 0; links = []; timed = 0; last_timed = None }
+at_first setting = record {
+  setting = setting;
+  trace = [];
+  told = 0;
+  spare = 0;
+  faults = 0;
+  turns = 0;
+  links = [];
+  timed = 0;
+  last_timed = None;
+}
 
 -- with one item more, reported at a time; with one wait or accept more; and with one timed call more
 abbrev pub after_item : Memory → Item → ℕ → Memory

@@ -56,7 +56,8 @@ pub record RightHistories : Type 0 where
   pub last_bytes_before_the_end : Right [] (receives 2 9 10 [] recv.End ∷
       receives 2 9 10 (1 ∷ 2 ∷ 3 ∷ 4 ∷ []) (recv.Got 4 0) ∷ shuts 1 ∷ filled)
   pub reset : Right [] (sends 1 (5 ∷ []) 10 (send.Failed cause.Reset) ∷ closes 2 ∷ filled)
-  pub closed_before_it_was_accepted : Right [] (receives 2 9 10 [] recv.End ∷ accepts 0 10 (accept.Accepted 2 0) ∷ closes 1 ∷ started)
+  pub closed_before_it_was_accepted : Right []
+      (receives 2 9 10 [] recv.End ∷ accepts 0 10 (accept.Accepted 2 0) ∷ closes 1 ∷ started)
   pub nothing_to_wait_for : Right [] (waits 7 (record { at = 7; how = how.Reached }) ∷ closes 1 ∷ started)
   pub past_the_end_of_time : Right [] (waits (2 ^ 63) (record { at = 0; how = how.Faulted }) ∷ [])
   pub no_listener : Right [] (starts 0 (over Tcp) (start.Refused cause.Refused 0) ∷ [])

@@ -12,7 +12,8 @@ use Rattle.taps_racer.specs.Attempts.{socket_of, open_socket, pending_socket, br
 -- the numbers rise
 abbrev pub Rise : List Numbered → Type 0
 Rise order =
-    (i j : ℕ) (d : Numbered) → i < j → j < length order → (slice_index_or order i d).socket < (slice_index_or order j d).socket
+    (i j : ℕ) (d : Numbered) → i < j → j < length order →
+    (slice_index_or order i d).socket < (slice_index_or order j d).socket
 
 -- the attempt at this place has this socket
 abbrev pub HasSocketAt : List Attempt → ℕ → ℕ → Type 0
@@ -48,7 +49,8 @@ is_loser attempts ready n =
     option_map_or is_open (slice_get attempts n.place) false && not (is_winner ready n.socket)
 
 -- none of the first ones is a loser
-pub record ArePassed (attempts : List Attempt) (ready : Option RaceAnswer) (order : List Numbered) (passed : ℕ) : Type 0 where
+pub record ArePassed (attempts : List Attempt) (ready : Option RaceAnswer) (order : List Numbered)
+    (passed : ℕ) : Type 0 where
   pub within : passed ≤ length order
   pub none : (k : ℕ) (d : Numbered) → k < passed → is_loser attempts ready (slice_index_or order k d) ≡ false
 

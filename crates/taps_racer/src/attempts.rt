@@ -34,7 +34,8 @@ pub(crate) fn place_in(attempts: &[Attempt], socket: u32) -> usize
 /// Notes what became of the socket of the attempt at a place.
 pub(crate) fn mark_at(attempts: &mut [Attempt], place: usize, socket: u32, state: State)
     requires { place < length attempts.old }
-    ensures { (d : _) → attempts.new ≡ slice_set attempts.old place (marked socket state (slice_index_or attempts.old place d)) }
+    ensures { (d : _) → attempts.new ≡
+        slice_set attempts.old place (marked socket state (slice_index_or attempts.old place d)) }
 {
     attempts[place] = attempts[place].marked(socket, state);
 }

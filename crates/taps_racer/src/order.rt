@@ -81,7 +81,8 @@ pub(crate) fn place_for(order: &[Numbered], socket: u32) -> usize
     requires { numbers.Rise order.now }
     ensures within { result ≤ length order.now }
     ensures below { (k : _) (d : _) → k < result → (slice_index_or order.now k d).socket < socket }
-    ensures above { (k : _) (d : _) → result ≤ k → k < length order.now → socket ≤ (slice_index_or order.now k d).socket }
+    ensures above { (k : _) (d : _) → result ≤ k → k < length order.now →
+        socket ≤ (slice_index_or order.now k d).socket }
 {
     order.partition_point(|n| n.socket < socket)
 }
@@ -144,7 +145,8 @@ pub(crate) fn first_loser(
 ) -> usize
     requires { numbers.ArePassed attempts.now ready order.now passed }
     ensures passed { numbers.ArePassed attempts.now ready order.now result }
-    ensures loser { (d : _) → result < length order.now → numbers.is_loser attempts.now ready (slice_index_or order.now result d) ≡ true }
+    ensures loser { (d : _) → result < length order.now →
+        numbers.is_loser attempts.now ready (slice_index_or order.now result d) ≡ true }
 {
     let mut place = passed;
     while place < order.len() && !is_loser(attempts, ready, number_at(order, place)) {

@@ -64,7 +64,9 @@ after_timed t call = record t { told = call.at; timed = one_more t.timed; last_t
 -- after a wait
 abbrev pub after_wait : Table → ℕ → WaitAnswer → Table
 after_wait t until answer =
-    record (after_item t (item.Waited until answer.at answer.how) answer.at) { faults = count_after answer.how t.faults }
+    record (after_item t (item.Waited until answer.at answer.how) answer.at) {
+      faults = count_after answer.how t.faults;
+    }
 
 -- after an accept that was faulted
 abbrev pub after_fault : Table → ℕ → Table
