@@ -2,6 +2,7 @@
 use Rattle.std.proofs.Common.{◌≡◌, ℕ, ◌+◌, ◌<◌, ◌≤◌, Bool, true, false, ◌||◌, List, [], ◌∷◌, ◌++◌, length, drop, refl, sym, ap, ◌∙◌, subst}
 use Rattle.std.specs.Prelude.{Option, Some, None}
 use Rattle.std.proofs.Math.Seq.{drop-length}
+use Rattle.taps_message.specs.declared.accepted.Accepted.{Accepted}
 use Rattle.taps_socket.specs.declared.item.Item.TheVariants as item
 use Rattle.taps_socket.specs.declared.cause.Cause.{Cause}
 use Rattle.taps_socket.specs.declared.answers.SendAnswer.{SendAnswer}
@@ -13,9 +14,9 @@ use Rattle.taps_connection.specs.declared.sender.Sender.{Sender}
 use Rattle.taps_connection.specs.declared.sender.Pushed.TheVariants as pushed
 use Rattle.taps_connection.specs.Encodings.{Encoding}
 use Rattle.taps_connection.specs.Outboxes.{Outbox, after_call, asks_out}
-use Rattle.taps_connection.specs.Runs.{IsRun, AllGo, EndsWith}
+use Rattle.taps_connection.specs.Runs.{IsRun, AllAsked, AllGo, EndsWith}
 use Rattle.taps_connection.specs.Pushes.{left_at, IsPush, HasPushed}
-use Rattle.taps_connection.specs.Senders.{settled, settled_by, queued, idle, turn_by, behind_by, queue_behind, shut_items, ends_by, IsStopped, IsDriven}
+use Rattle.taps_connection.specs.Senders.{settled, settled_by, queued, idle, turn_by, behind_by, queue_behind, shut_items, ends_by, goes, AreOfOne, IsStopped, IsDriven}
 
 -- the run of the calls that push bytes out, from what was kept
 pushed_run : (e : Encoding) (socket until : ℕ) (s : Sender) (b : Begun) (calls : List Call) (taken m : ℕ) → s.begun ≡ Some b → IsPush socket until b.bytes b.taken s.moment calls taken m →
@@ -23,6 +24,13 @@ pushed_run : (e : Encoding) (socket until : ℕ) (s : Sender) (b : Begun) (calls
 pushed_run e socket until s b calls taken m is p =
     subst (λ v. IsRun e socket until v calls (left_at e (idle s) m b.number b.ends (drop taken b.bytes) (queued s))) (sym (ap (settled_by e s) is))
     (p e (idle s) b.number b.ends (queued s))
+
+-- so it is where no message is behind the begun one
+one_run : (e : Encoding) (socket until : ℕ) (s : Sender) (b : Begun) (calls : List Call) → s.begun ≡ Some b → AllAsked e socket until (left_at e (idle s) s.moment b.number b.ends (drop b.taken b.bytes) []) calls → AreOfOne e socket until s calls
+one_run e socket until s b calls is asked =
+    λ message turn.
+    let same : b ≡ message = (let found : goes b ≡ goes message = sym (ap (turn_by e s) is) ∙ turn in cc) in
+    subst (λ (v : Begun). AllAsked e socket until (left_at e (idle s) s.moment v.number v.ends (drop v.taken v.bytes) []) calls) same asked
 
 pub same_queue : (s : Sender) (b : Begun) → s.begun ≡ Some b → s.queue.queue ≡ queue_behind s
 same_queue s b is = sym (ap (λ (o : Option Begun). record s.queue.queue { queued = behind_by o (queued s) }) is)
@@ -42,7 +50,7 @@ timed Becomes e before after socket until s b c taken m at is grew p same =
     (record {
       calls = p.calls;
       becomes = p.becomes;
-      pushed_by = (pushed_run e socket until s b p.calls taken m is p.push, is_stopped e socket until s b (send.Timed at) p.calls taken m is grew p.ended.0 p.ended.1, p.ended.2);
+      pushed_by = (pushed_run e socket until s b p.calls taken m is p.push, is_stopped e socket until s b (send.Timed at) p.calls taken m is grew p.ended.0 p.ended.1, p.ended.2, one_run e socket until s b p.calls is (p.push e (idle s) b.number b.ends []).asked);
     })
 
 pub failed : {N : Type 0} (Becomes : N → List Call → N → Type 0) (e : Encoding) (before after : N) (socket until : ℕ) (s : Sender) (b c : Begun) (taken m : ℕ) (cause : Cause) → s.begun ≡ Some b → b.taken ≤ taken →
@@ -53,12 +61,18 @@ failed Becomes e before after socket until s b c taken m cause is grew p same =
     (record {
       calls = p.calls;
       becomes = p.becomes;
-      pushed_by = (pushed_run e socket until s b p.calls taken m is p.push, is_stopped e socket until s b (send.Failed cause) p.calls taken m is grew p.ended.0 p.ended.1, p.ended.2);
+      pushed_by = (pushed_run e socket until s b p.calls taken m is p.push, is_stopped e socket until s b (send.Failed cause) p.calls taken m is grew p.ended.0 p.ended.1, p.ended.2, one_run e socket until s b p.calls is (p.push e (idle s) b.number b.ends []).asked);
     })
 
 -- nothing is left of the message
-nothing_left : (e : Encoding) (s : Sender) (b : Begun) (taken m : ℕ) → taken ≡ length b.bytes → left_at e (idle s) m b.number b.ends (drop taken b.bytes) (queued s) ≡ left_at e (idle s) m b.number b.ends [] (queued s)
-nothing_left e s b taken m all = ap (λ (v : List ℕ). left_at e (idle s) m b.number b.ends v (queued s)) (ap (λ n. drop n b.bytes) all ∙ drop-length b.bytes)
+nothing_left : (e : Encoding) (s : Sender) (b : Begun) (taken m : ℕ) (behind : List Accepted) → taken ≡ length b.bytes → left_at e (idle s) m b.number b.ends (drop taken b.bytes) behind ≡ left_at e (idle s) m b.number b.ends [] behind
+nothing_left e s b taken m behind all = ap (λ (v : List ℕ). left_at e (idle s) m b.number b.ends v behind) (ap (λ n. drop n b.bytes) all ∙ drop-length b.bytes)
+
+-- the sending side is ended behind it
+ended_asked : (e : Encoding) (socket until : ℕ) (before : Outbox) (s : Sender) (calls : List Call) (m number : ℕ) (ends : Bool) →
+    IsRun e socket until before calls (left_at e (idle s) m number ends [] []) → AllAsked e socket until before (ends_by ends socket ++ calls)
+ended_asked e socket until before s calls m number true r = (ap (λ v. asks_out socket until v.stand) r.reaches, r.asked)
+ended_asked e socket until before s calls m number false r = r.asked
 
 -- behind the message the sending stands as it is kept
 ended_run : (e : Encoding) (socket until : ℕ) (before : Outbox) (s : Sender) (calls : List Call) (m number : ℕ) (ends is_shut : Bool) →
@@ -89,7 +103,7 @@ sent Becomes e before mid after socket until s b taken m on is p ends =
       calls = ends_by b.ends socket ++ p.calls;
       becomes = on before mid after p.calls (ends_by b.ends socket) p.becomes ends;
       pushed_by = (
-        ended_run e socket until (settled e s) s p.calls m b.number b.ends (s.shut || b.ends) (record { asked = r.asked; reaches = r.reaches ∙ nothing_left e s b taken m p.ended.0 }),
+        ended_run e socket until (settled e s) s p.calls m b.number b.ends (s.shut || b.ends) (record { asked = r.asked; reaches = r.reaches ∙ nothing_left e s b taken m (queued s) p.ended.0 }),
         record {
           message = b;
           turn = ap (turn_by e s) is;
@@ -99,5 +113,8 @@ sent Becomes e before mid after socket until s b taken m on is p ends =
           kept = refl;
           queue = same_queue s b is;
         },
+        one_run e socket until s b (ends_by b.ends socket ++ p.calls) is
+            (ended_asked e socket until _ s p.calls m b.number b.ends
+            (let one = p.push e (idle s) b.number b.ends [] in record { asked = one.asked; reaches = one.reaches ∙ nothing_left e s b taken m [] p.ended.0 })),
       );
     }

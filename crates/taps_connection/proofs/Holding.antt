@@ -35,7 +35,7 @@ sent_held socket stream has_ended was ends false trace trace' n e h = same_held 
 
 pub held_after : (e : Encoding) (socket until : ℕ) (stream has_ended : Bool) (trace trace' : List Item) (s t : Sender) (answer : Pushed) (calls : List Call) → IsPushed e socket until s answer calls t →
     trace' ≡ pushed_items socket t.shut answer ++ trace → IsHeld trace socket stream s.shut has_ended → UnlessFailed answer (IsHeld trace' socket stream t.shut has_ended)
-held_after e socket until stream has_ended trace trace' s t (pushed.Sent number) calls (r, p) same h = sent_held socket stream has_ended s.shut p.message.ends t.shut trace trace' (ap (λ (v : Sender). v.shut) p.kept) same h
+held_after e socket until stream has_ended trace trace' s t (pushed.Sent number) calls (r, p, one) same h = sent_held socket stream has_ended s.shut p.message.ends t.shut trace trace' (ap (λ (v : Sender). v.shut) p.kept) same h
 held_after e socket until stream has_ended trace trace' s t pushed.Empty calls p same h = same_held socket stream has_ended s.shut t.shut trace trace' same (ap (λ (v : Sender). v.shut) p.2.kept) h
 held_after e socket until stream has_ended trace trace' s t (pushed.Expired number) calls p same h = same_held socket stream has_ended s.shut t.shut trace trace' same (ap (λ (v : Sender). v.shut) p.3.kept) h
 held_after e socket until stream has_ended trace trace' s t (pushed.Timed at) calls p same h = same_held socket stream has_ended s.shut t.shut trace trace' same (ap (λ (v : Sender). v.shut) p.1.kept) h

@@ -1,5 +1,5 @@
 -- A turn of the next message, which is begun first or has another answer.
-use Rattle.std.proofs.Common.{◌≡◌, ℕ, ◌+◌, Bool, true, false, ◌||◌, List, [], ◌∷◌, ◌++◌, refl, sym, ap, ◌∙◌, subst, if◌then◌else◌}
+use Rattle.std.proofs.Common.{◌≡◌, ℕ, ◌+◌, Bool, true, false, ◌||◌, List, [], ◌∷◌, ◌++◌, drop, refl, sym, ap, ◌∙◌, subst, if◌then◌else◌}
 use Rattle.std.specs.Prelude.{Option, Some, None}
 use Rattle.std.specs.List.{concat}
 use Rattle.std.proofs.lemmas.List.{append-nil}
@@ -21,10 +21,10 @@ use Rattle.taps_socket.specs.declared.answers.SendAnswer.{SendAnswer}
 use Rattle.taps_connection.specs.Adds.{Adds, IsRoomier}
 use Rattle.taps_connection.specs.Encodings.{Encoding}
 use Rattle.taps_connection.specs.Outboxes.{Outbox}
-use Rattle.taps_connection.specs.Pushes.{none, HasFront}
-use Rattle.taps_connection.specs.Runs.{IsRun}
+use Rattle.taps_connection.specs.Pushes.{none, HasFront, left_at}
+use Rattle.taps_connection.specs.Runs.{IsRun, AllAsked}
 use Rattle.taps_connection.specs.Senders as senders
-use Rattle.taps_connection.specs.Senders.{Turn, settled, queued, turn_of, turn_in, turn_if, begun_of, goes, behind_by, queue_behind, pushed_items, pushed_call, IsBegun, IsSent, IsStopped, IsMoved, IsStill, IsPushed, IsDriven}
+use Rattle.taps_connection.specs.Senders.{Turn, settled, queued, idle, turn_of, turn_in, turn_if, begun_of, goes, behind_by, queue_behind, pushed_items, pushed_call, IsBegun, IsSent, IsStopped, AreOfOne, IsMoved, IsStill, IsPushed, IsDriven}
 use Rattle.taps_connection.specs.Written.{sent_by, pieces_of, HasWhole, HasPieces, Writes, KeepsWritten, body_in, body_by, body_of}
 use Rattle.taps_connection.proofs.Driving.{same_queue}
 
@@ -66,10 +66,16 @@ stopped_behind e socket until s t u answer calls h p =
 run_behind : (e : Encoding) (socket until : ℕ) (s t : Sender) (calls : List Call) (after : Outbox) → IsBegun e s t → IsRun e socket until (settled e t) calls after → IsRun e socket until (settled e s) calls after
 run_behind e socket until s t calls after h r = subst (λ v. IsRun e socket until v calls after) h.represents r
 
+one_behind : (e : Encoding) (socket until : ℕ) (s t : Sender) (calls : List Call) → IsBegun e s t → AreOfOne e socket until t calls → AreOfOne e socket until s calls
+one_behind e socket until s t calls h one =
+    λ message turn.
+    subst (λ (v : Sender). AllAsked e socket until (left_at e (idle v) v.moment message.number message.ends (drop message.taken message.bytes) []) calls) h.kept
+    (one message (sym (turn_same e s t h) ∙ turn))
+
 pushed_behind : (e : Encoding) (socket until : ℕ) (s t u : Sender) (answer : Pushed) (calls : List Call) → IsMoved answer → IsBegun e s t → IsPushed e socket until t answer calls u → IsPushed e socket until s answer calls u
-pushed_behind e socket until s t u (pushed.Sent number) calls m h (r, p) = (run_behind e socket until s t calls (settled e u) h r, sent_behind e socket s t u number calls h p)
-pushed_behind e socket until s t u (pushed.Timed at) calls m h p = (run_behind e socket until s t calls (settled e u) h p.0, stopped_behind e socket until s t u _ calls h p.1, p.2)
-pushed_behind e socket until s t u (pushed.Failed cause) calls m h p = (run_behind e socket until s t calls (settled e u) h p.0, stopped_behind e socket until s t u _ calls h p.1, p.2)
+pushed_behind e socket until s t u (pushed.Sent number) calls m h p = (run_behind e socket until s t calls (settled e u) h p.0, sent_behind e socket s t u number calls h p.1, one_behind e socket until s t calls h p.2)
+pushed_behind e socket until s t u (pushed.Timed at) calls m h p = (run_behind e socket until s t calls (settled e u) h p.0, stopped_behind e socket until s t u _ calls h p.1, p.2, one_behind e socket until s t calls h p.3)
+pushed_behind e socket until s t u (pushed.Failed cause) calls m h p = (run_behind e socket until s t calls (settled e u) h p.0, stopped_behind e socket until s t u _ calls h p.1, p.2, one_behind e socket until s t calls h p.3)
 pushed_behind e socket until s t u pushed.Empty calls m h p = absurd m
 pushed_behind e socket until s t u (pushed.Expired number) calls m h p = absurd m
 pushed_behind e socket until s t u (pushed.NotSpeakable number layer) calls m h p = absurd m

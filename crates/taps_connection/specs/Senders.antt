@@ -18,7 +18,7 @@ use Rattle.taps_connection.specs.declared.sender.Pushed.TheVariants as pushed
 use Rattle.taps_connection.specs.Encodings.{Encoding}
 use Rattle.taps_connection.specs.Outboxes.{Outbox, refused, all_out, take_turn, or_else}
 use Rattle.taps_connection.specs.Pushes.{left_at}
-use Rattle.taps_connection.specs.Runs.{IsRun, AllGo, EndsWith}
+use Rattle.taps_connection.specs.Runs.{IsRun, AllAsked, AllGo, EndsWith}
 
 -- the messages that had no turn
 abbrev pub queued : Sender → List Accepted
@@ -135,6 +135,12 @@ pub record IsSame (s : Sender) (calls : List Call) (t : Sender) : Type 0 where
   pub kept : t ≡ record s { queue = t.queue }
   pub queue : t.queue.queue ≡ s.queue.queue
 
+-- each call is what the outbox asks where no message is behind the one whose turn it is
+abbrev pub AreOfOne : Encoding → ℕ → ℕ → Sender → List Call → Type 0
+AreOfOne e socket until s calls = (message : Begun) → turn_of e s ≡ goes message →
+    AllAsked e socket until
+    (left_at e (idle s) s.moment message.number message.ends (drop message.taken message.bytes) []) calls
+
 -- a message would go out, or be refused
 abbrev pub IsTried : Turn → Type 0
 IsTried nothing = ⊥
@@ -146,7 +152,8 @@ IsTried (goes message) = Unit {0}
 -- the outbox after them
 abbrev pub IsPushed : Encoding → ℕ → ℕ → Sender → Pushed → List Call → Sender → Type 0
 IsPushed e socket until s (pushed.Sent number) calls t =
-    IsRun e socket until (settled e s) calls (settled e t) × IsSent e socket s number calls t
+    IsRun e socket until (settled e s) calls (settled e t) × IsSent e socket s number calls t ×
+    AreOfOne e socket until s calls
 IsPushed e socket until s pushed.Empty calls t =
     (settled e s ≡ idle s) × (turn_of e s ≡ nothing) × IsSame s calls t × (queued s ≡ [])
 IsPushed e socket until s (pushed.Expired number) calls t =
@@ -154,10 +161,10 @@ IsPushed e socket until s (pushed.Expired number) calls t =
     IsTakenOut s calls t
 IsPushed e socket until s (pushed.Timed at) calls t =
     IsRun e socket until (settled e s) calls (settled e t) × IsStopped e socket until s (send.Timed at) calls t ×
-    (items_of calls ≡ [])
+    (items_of calls ≡ []) × AreOfOne e socket until s calls
 IsPushed e socket until s (pushed.Failed cause) calls t =
     IsRun e socket until (settled e s) calls (settled e t) × IsStopped e socket until s (send.Failed cause) calls t ×
-    (items_of calls ≡ item.DataFailed socket true cause ∷ [])
+    (items_of calls ≡ item.DataFailed socket true cause ∷ []) × AreOfOne e socket until s calls
 IsPushed e socket until s (pushed.NotSpeakable number layer) calls t =
     ((settled e s).stand ≡ refused number layer (queued t)) × (turn_of e s ≡ refuses number layer) ×
     (t.expired ≡ s.expired) × IsTakenOut s calls t

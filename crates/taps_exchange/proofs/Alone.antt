@@ -5,12 +5,12 @@ use Rattle.taps_socket.specs.Calls.{Call, sends, receives, shuts, closes, begins
 use Rattle.taps_connection.specs.Outboxes.{Stand, begun, ending, refused, all_out}
 use Rattle.taps_exchange.specs.declared.outcome.Outcome.TheVariants as outcome
 use Rattle.taps_exchange.specs.Members.{Member, is_on, calls_on, has_ended, outbox_after, hearing_after}
-use Rattle.taps_exchange.specs.Turns.{Turn, asks, over, Place, turn_of_group, turn_alone, IsInTurn, stop, unless, done_or, turn_in, turn_out, turn_sending, ending_by, sooner, waiting_by}
+use Rattle.taps_exchange.specs.Turns.{Turn, asks, over, Place, turn_of_group, turn_alone, IsInTurn, stop, unless, done_or, turn_in, turn_out, turn_sending, sooner, waiting_by}
 use Rattle.taps_exchange.specs.Alone.{OneIsAlone}
 use Rattle.taps_exchange.proofs.Asked.{send_asks, receive_asks, shut_asks, data_asks}
 
 -- one member is next wherever it has something to send
-one_sends : (p : Place) (stand : Stand) (others : Turn) → ending_by p stand (turn_sending (sooner (waiting_by p 0 stand) None) others) ≡ turn_out p.member 0 stand others
+one_sends : (p : Place) (stand : Stand) (others : Turn) → turn_sending (sooner (waiting_by p 0 stand) None) others ≡ turn_out p.member 0 stand others
 one_sends p (begun number ends rest behind) others = refl
 one_sends p (ending behind) others = refl
 one_sends p (refused number layer behind) others = refl

@@ -65,6 +65,14 @@ receive_asks m None all_out false (lacks ms l) p s most u q =
     record { own = cc; bounded = cc }
 receive_asks m None all_out e (breaks ms l k) p s most u q = cc
 
+-- it comes when all messages had their turn
+pub receive_out : (m : Member) (o : Option Outcome) (stand : Stand) (e : Bool) (h : Hearing) (p : Outcome) (s most u : ℕ) → unless o (turn_out m 0 stand (turn_in m e h (over p))) ≡ asks (to_receive s most u) → stand ≡ all_out
+receive_out m (Some o) stand e h p s most u q = cc
+receive_out m None (begun number ends rest behind) e h p s most u q = cc
+receive_out m None (ending behind) e h p s most u q = cc
+receive_out m None (refused number layer behind) e h p s most u q = cc
+receive_out m None all_out e h p s most u q = refl
+
 -- nothing else is asked
 abbrev is_data : Request → Bool
 is_data (to_send s bytes u) = true

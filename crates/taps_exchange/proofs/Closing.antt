@@ -14,6 +14,7 @@ use Rattle.taps_exchange.specs.Members.{Member}
 use Rattle.taps_exchange.specs.Outcomes.{AreExchangeItems}
 use Rattle.taps_exchange.proofs.Behind.{unchanged}
 use Rattle.taps_exchange.proofs.Alone.{one_is_alone}
+use Rattle.taps_exchange.proofs.Expiring.{times_rise}
 use Rattle.taps_exchange.proofs.Judging.{judged, items_are}
 
 closed_by : (m : Member) (calls : List Call) (a b c : Net) → Changes m.socket 2 a b → Shows a calls b → c ≡ with_item b (item.Closed m.socket) b.told → 3 ≤ a.spare → AreExchangeItems m.socket (items_of calls) → HasClosed m.socket calls a c
@@ -48,6 +49,7 @@ closes_on Becomes x y z a b c m (Ok e) on shows k then changes closed room =
       heard_is = k.heard_is;
       own = (one_is_alone (alone m 0 []) k.calls).own k.exchange.in_turn;
       judged = j;
+      times_rise = (times_rise a.trace a.told k.calls (shows k.calls k.becomes).lawful).1;
       changes = closed_by m k.calls a b c changes (shows k.calls k.becomes) closed room own;
       timed = ap (λ (v : Net). v.timed) closed ∙ ((shows k.calls k.becomes).timed ∙ j.timed a.timed);
     }

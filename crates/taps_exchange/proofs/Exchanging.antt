@@ -21,14 +21,14 @@ use Rattle.taps_exchange.specs.Turns.{Turn, asks, over, turn_alone, IsInTurn, st
 use Rattle.taps_exchange.proofs.Behind.{after_behind, others_of, no_stop, stop_behind, read_behind, ended_behind, goes}
 
 -- what is asked of a sending socket comes next
-asks_next : (m : Member) (place : ℕ) (stand : Stand) (r : Request) (others : Turn) → asks_out m.socket m.until stand ≡ Some r → turn_out m place stand others ≡ asks r
+pub asks_next : (m : Member) (place : ℕ) (stand : Stand) (r : Request) (others : Turn) → asks_out m.socket m.until stand ≡ Some r → turn_out m place stand others ≡ asks r
 asks_next m place (begun number ends rest behind) r others e = (let x : to_send m.socket rest m.until ≡ r = cc in ap asks x)
 asks_next m place (ending behind) r others e = (let x : to_shut m.socket ≡ r = cc in ap asks x)
 asks_next m place (refused number layer behind) r others e = cc
 asks_next m place all_out r others e = cc
 
 -- an outcome that ends the sending ends the exchange
-ends_sending : (m : Member) (place : ℕ) (s : Option Outcome) (stand : Stand) (o : Outcome) (others : Turn) → ends_out place s stand ≡ Some o → unless s (turn_out m place stand others) ≡ over o
+pub ends_sending : (m : Member) (place : ℕ) (s : Option Outcome) (stand : Stand) (o : Outcome) (others : Turn) → ends_out place s stand ≡ Some o → unless s (turn_out m place stand others) ≡ over o
 ends_sending m place (Some p) stand o others e = (let x : p ≡ o = cc in ap over x)
 ends_sending m place None (refused number layer behind) o others e = (let x : outcome.NotSpeakable place number layer ≡ o = cc in ap over x)
 ends_sending m place None (begun number ends rest behind) o others e = cc
@@ -36,7 +36,7 @@ ends_sending m place None (ending behind) o others e = cc
 ends_sending m place None all_out o others e = cc
 
 -- none ends it
-none_ends : (place : ℕ) (s : Option Outcome) (stand : Stand) → ends_out place s stand ≡ None → s ≡ None
+pub none_ends : (place : ℕ) (s : Option Outcome) (stand : Stand) → ends_out place s stand ≡ None → s ≡ None
 none_ends place (Some p) stand e = cc
 none_ends place None stand e = refl
 
@@ -86,11 +86,11 @@ received box (recv.Failed cause) = record { stand = refl; sent = refl; expired =
 then_same : (a b c : Outbox) → SameSending a b → SameSending b c → SameSending a c
 then_same a b c p q = record { stand = q.stand ∙ p.stand; sent = q.sent ∙ p.sent; expired = q.expired ∙ p.expired }
 
-abbrev is_receive : Request → Bool
+abbrev pub is_receive : Request → Bool
 is_receive (to_receive s most u) = true
 is_receive _ = false
 
-asks_receive : (d : Decoding) (socket piece until : ℕ) (ended : Bool) (h : Hearing) (r : Request) → asks_in d socket piece until ended h ≡ Some r → is_receive r ≡ true
+pub asks_receive : (d : Decoding) (socket piece until : ℕ) (ended : Bool) (h : Hearing) (r : Request) → asks_in d socket piece until ended h ≡ Some r → is_receive r ≡ true
 asks_receive d socket piece until true h r e = cc
 asks_receive d socket piece until false (enough ms) r e = cc
 asks_receive d socket piece until false (lacks ms unread) r e = (let x : to_receive socket (d.most piece unread) until ≡ r = cc in ap is_receive (sym x))
@@ -114,20 +114,20 @@ same_sending e box d socket piece until n read ended (c ∷ more) a =
     (by_receive e (after_calls e box more) c (asks_receive d socket piece until (ended_by ended more) (heard_by d n read ended more) (request_of c) a.0))
 
 -- what is asked by what was heard comes next
-hears_next : (m : Member) (ended : Bool) (h : Hearing) (r : Request) (others : Turn) → asks_in m.decoding m.socket m.piece m.until ended h ≡ Some r → turn_in m ended h others ≡ asks r
+pub hears_next : (m : Member) (ended : Bool) (h : Hearing) (r : Request) (others : Turn) → asks_in m.decoding m.socket m.piece m.until ended h ≡ Some r → turn_in m ended h others ≡ asks r
 hears_next m true h r others e = cc
 hears_next m false (enough ms) r others e = cc
 hears_next m false (lacks ms unread) r others e = (let x : to_receive m.socket (m.decoding.most m.piece unread) m.until ≡ r = cc in ap asks x)
 hears_next m false (breaks ms l p) r others e = cc
 
-ends_hearing : (m : Member) (s : Option Outcome) (ended : Bool) (h : Hearing) (o : Outcome) (others : Turn) → ends_in s ended h ≡ Some o → unless s (turn_in m ended h others) ≡ over o
+pub ends_hearing : (m : Member) (s : Option Outcome) (ended : Bool) (h : Hearing) (o : Outcome) (others : Turn) → ends_in s ended h ≡ Some o → unless s (turn_in m ended h others) ≡ over o
 ends_hearing m (Some p) ended h o others e = (let x : p ≡ o = cc in ap over x)
 ends_hearing m None ended (enough ms) o others e = cc
 ends_hearing m None true (lacks ms unread) o others e = (let x : outcome.PeerEnded ≡ o = cc in ap over x)
 ends_hearing m None false (lacks ms unread) o others e = cc
 ends_hearing m None ended (breaks ms l p) o others e = (let x : outcome.BadFrame (record { message = length ms; layer = l; place = p }) ≡ o = cc in ap over x)
 
-no_end : (s : Option Outcome) (ended : Bool) (h : Hearing) → ends_in s ended h ≡ None → s ≡ None
+pub no_end : (s : Option Outcome) (ended : Bool) (h : Hearing) → ends_in s ended h ≡ None → s ≡ None
 no_end (Some p) ended h e = cc
 no_end None ended h e = refl
 

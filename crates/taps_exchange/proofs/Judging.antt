@@ -16,6 +16,7 @@ use Rattle.taps_exchange.specs.Turns.{Turn, asks, over, turn_alone, IsInTurn, Is
 use Rattle.taps_exchange.specs.Outcomes.{IsOut, EndsTimed, HasCause, count_by, AreExchangeItems, count_failures, JudgesExchanges}
 use Rattle.taps_exchange.proofs.Asked.{IsSendOf, send_asks, shut_asks, IsReceiveOf, receive_asks, data_asks}
 use Rattle.taps_exchange.proofs.WritingCalls.{written}
+use Rattle.taps_exchange.proofs.Expiring.{in_time}
 
 same_outcome : (o p : Outcome) → over o ≡ over p → o ≡ p
 same_outcome o p e = cc
@@ -210,8 +211,10 @@ pub judged : JudgesExchanges
 judged m calls o x =
     let few = failures_are m calls x.in_turn in
     let most = at_most (stop calls) in
+    let w = written m calls x.in_turn in
     record {
-      written = written m calls x.in_turn;
+      written = w.written;
+      in_time = in_time m calls w.written.turned x.in_turn w.passed;
       cause = cause_of m calls o x;
       timed = λ n. timed_is m calls n x.in_turn ∙ count_outcome m calls o (stop calls) _ n refl x.ends (not_timed m calls o x);
       items = items_are m calls x.in_turn;

@@ -3,6 +3,7 @@ pub mod Unique
 pub mod Writing
 pub mod Asked
 pub mod WritingCalls
+pub mod Expiring
 pub mod Judging
 pub mod Alone
 pub mod Firsts
@@ -14,3 +15,4 @@ pub mod HearingOn
 pub mod Exchanging
 pub mod Accepting
 pub mod Closing
+pub mod Moments

@@ -100,7 +100,7 @@ empty_ends Becomes e a b c socket until place s t u on k d =
     }
 
 -- a rest of the begun message is left
-record IsLeft (box : Outbox) (t : Sender) : Type 0 where
+pub record IsLeft (box : Outbox) (t : Sender) : Type 0 where
   pub sent : box.sent ≡ t.sent
   pub expired : box.expired ≡ t.expired
 
@@ -113,7 +113,7 @@ begun_left e t b is left =
     subst (λ (v : Outbox). IsLeft v t) (sym (ap (settled_by e t) is))
     (rest_left (take_turn e t.moment (t.sent + 1) t.expired (queued t)) t t.moment b.number b.ends (drop b.taken b.bytes) (queued t) (let l = length-drop b.taken b.bytes in omega arith))
 
-stopped_left : (e : Encoding) (socket until : ℕ) (s : Sender) (answer : SendAnswer) (calls : List Call) (t : Sender) → IsStopped e socket until s answer calls t → IsLeft (settled e t) t
+pub stopped_left : (e : Encoding) (socket until : ℕ) (s : Sender) (answer : SendAnswer) (calls : List Call) (t : Sender) → IsStopped e socket until s answer calls t → IsLeft (settled e t) t
 stopped_left e socket until s answer calls t h = begun_left e t (record h.message { taken = h.taken }) (ap (λ (v : Sender). v.begun) h.kept) h.left
 
 stop_newest : (calls : List Call) (call : Call) (o : Option Outcome) → EndsWith calls call → stop (call ∷ []) ≡ o → stop calls ≡ o
@@ -169,7 +169,7 @@ refused_in : (e : Encoding) (s : Sender) (messages : List Accepted) (number laye
 refused_in e s [] number layer h = cc
 refused_in e s (m ∷ behind) number layer h = refused_by (has_expired m s.moment) e s m behind _ _ number layer h
 
-refused_left : (e : Encoding) (s : Sender) (number layer : ℕ) → s.begun ≡ None → turn_of e s ≡ refuses number layer → IsLeft (settled e s) s
+pub refused_left : (e : Encoding) (s : Sender) (number layer : ℕ) → s.begun ≡ None → turn_of e s ≡ refuses number layer → IsLeft (settled e s) s
 refused_left e s number layer none h =
     subst (λ (v : Outbox). IsLeft v s) (sym (ap (settled_by e s) none)) (refused_in e s (queued s) number layer (sym (ap (senders.turn_by e s) none) ∙ h))
 

@@ -1,5 +1,5 @@
 -- The definitions judge the worked exchanges as they are to be judged.
-use Rattle.std.proofs.Common.{rules}
+use Rattle.std.proofs.Common.{◌≡◌, ◌≤◌, ◌+◌, Some, None, refl, rules, arith}
 use Rattle.taps_property.specs.declared.message_props.MessageProps.{MessageProps}
 use Rattle.taps_exchange.specs.WorkedExchanges.{RightExchanges, WrongExchanges, RightGroups, JudgesWorkedExchanges}
 
@@ -24,6 +24,7 @@ right p =
       refuses_its_second_message = search rules;
       datagram_each_way = search rules;
       refuses_an_empty_datagram = search rules;
+      expired_by_a_sent = record { lifetime = 50; limited = refl; sent = 60; last = refl; passed = λ r. omega arith };
     }
 
 wrong : (p : MessageProps) → WrongExchanges p
@@ -42,6 +43,15 @@ wrong p =
       on_another_socket = λ h. (let x = h.in_turn.0 in cc);
       past_the_deadline = λ h. (let x = h.in_turn.0 in cc);
       a_stream_before_its_end = λ h. (let x = h.ends in cc);
+      expired_too_soon = λ h. (
+          let life : Some 50 ≡ Some h.lifetime = h.limited in
+          let sent : Some 59 ≡ Some h.sent = h.last in
+          let same : 50 ≡ h.lifetime = cc in
+          let by : 59 ≡ h.sent = cc in
+          let passed : 10 + h.lifetime ≤ h.sent = h.passed (omega arith, tt) in
+          absurd (omega (arith, same, by, passed)));
+      expired_by_a_receive = λ h. (let x : None ≡ Some h.sent = h.last in cc);
+      expired_without_a_lifetime = λ h. (let x : None ≡ Some h.lifetime = h.limited in cc);
     }
 
 groups : (p : MessageProps) → RightGroups p

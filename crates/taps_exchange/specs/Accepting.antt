@@ -42,4 +42,5 @@ numbered number at (m ∷ messages) = record { number = number; at = at; message
 
 -- then all of them are accepted
 abbrev pub AcceptsAll : Type 0
-AcceptsAll = (at : ℕ) (messages : List Message) → AreAcceptable messages → accepted_of at messages ≡ numbered 0 at messages
+AcceptsAll = (at : ℕ) (messages : List Message) → AreAcceptable messages →
+    accepted_of at messages ≡ numbered 0 at messages

@@ -14,6 +14,7 @@ use Rattle.taps_exchange.specs.declared.exchanged.Exchanged.{Exchanged}
 use Rattle.taps_exchange.specs.declared.outcome.Outcome.{Outcome}
 use Rattle.taps_exchange.specs.declared.outcome.Outcome.TheVariants as outcome
 use Rattle.taps_exchange.specs.Decodings.{decoding_of, messages_of}
+use Rattle.taps_exchange.specs.Expiries.{TimesRise}
 use Rattle.taps_exchange.specs.Members.{Member, calls_on, outbox_after, hearing_after}
 use Rattle.taps_exchange.specs.Outcomes.{AreExchangeItems, IsJudged, count_by}
 use Rattle.taps_exchange.specs.Turns.{Place, initiate, turn_of, turn_alone, done_or, IsInTurn, IsExchange}
@@ -42,8 +43,8 @@ abbrev pub outcome_or : Option ℕ → Option Outcome → Outcome
 outcome_or expired (Some o) = o
 outcome_or expired None = done_or expired 0 outcome.Done
 
--- Sockets went through calls that are the exchange of a member, with this outcome: so many messages were sent, and these
--- were heard.
+-- Sockets went through calls that are the exchange of a member, with this outcome: so many messages were sent, and
+-- these were heard.
 pub record IsTalk {N : Type 0} (Becomes : N → List Call → N → Type 0) (before after : N) (m : Member) (o : Outcome)
     (sent : ℕ) (heard : List (List ℕ)) : Type 0 where
   pub calls : List Call
@@ -58,7 +59,8 @@ pub record IsCutTalk {N : Type 0} (Becomes : N → List Call → N → Type 0) (
   pub becomes : Becomes before calls after
   pub in_turn : IsInTurn (turn_alone m) calls
 
-abbrev pub HasTalked : {N : Type 0} → (N → List Call → N → Type 0) → N → N → Member → Result Exchanged NoMemory → Type 0
+abbrev pub HasTalked : {N : Type 0} → (N → List Call → N → Type 0) → N → N → Member →
+    Result Exchanged NoMemory → Type 0
 HasTalked Becomes before after m (Ok e) = IsTalk Becomes before after m e.outcome e.sent e.heard.items
 HasTalked Becomes before after m (Err none) = IsCutTalk Becomes before after m
 
@@ -66,8 +68,9 @@ HasTalked Becomes before after m (Err none) = IsCutTalk Becomes before after m
 abbrev pub alone : Member → ℕ → List ℕ → Place
 alone m priority orders = record { member = m; priority = priority; orders = orders }
 
--- The calls of an exchange and the close of its socket were made: their items were added, at most three, for which spare
--- was used up, and all of which are of the socket; no call was faulted; and the traffic of all other sockets stayed.
+-- The calls of an exchange and the close of its socket were made: their items were added, at most three, for which
+-- spare was used up, and all of which are of the socket; no call was faulted; and the traffic of all other sockets
+-- stayed.
 pub record HasClosed (socket : ℕ) (calls : List Call) (before after : Net) : Type 0 where
   pub trace : after.trace ≡ item.Closed socket ∷ (items_of calls ++ before.trace)
   pub few : length (items_of calls) ≤ 2
@@ -77,7 +80,8 @@ pub record HasClosed (socket : ℕ) (calls : List Call) (before after : Net) : T
   pub others : (s : ℕ) → s ≢ socket → after.traffic s ≡ before.traffic s
 
 -- Sockets went through the calls of an exchange of a member with this outcome, and then the socket was closed: so many
--- messages were sent, and these were heard. One timed call more was made where the outcome is Timed, and else none.
+-- messages were sent, and these were heard. One timed call more was made where the outcome is Timed, and else none. No
+-- call told a time before an earlier one.
 pub record IsExchanged {N : Type 0} (Becomes : N → List Call → N → Type 0) (before after : N) (net net' : Net)
     (m : Member) (o : Outcome) (sent : ℕ) (heard : List (List ℕ)) : Type 0 where
   pub calls : List Call
@@ -88,6 +92,7 @@ pub record IsExchanged {N : Type 0} (Becomes : N → List Call → N → Type 0)
   pub heard_is : messages_of (hearing_after m calls) ≡ heard
   pub own : calls_on m.socket calls ≡ calls
   pub judged : IsJudged m calls o
+  pub times_rise : TimesRise calls
   pub changes : HasClosed m.socket calls net net'
   pub timed : net'.timed ≡ count_by o net.timed
 

@@ -23,8 +23,8 @@ Fits stream fs piece (framed p bytes index bad) = (stream ≡ true) × (0 < leng
 Fits stream fs piece (plain p bytes given) = (stream ≡ true) × (fs ≡ []) × (p ≡ piece)
 Fits stream fs piece (datagrams held given) = stream ≡ false
 
--- what is asked of a socket, by whether the other end ended its sending side and what was heard: more bytes, where fewer
--- messages were heard than are needed
+-- what is asked of a socket, by whether the other end ended its sending side and what was heard: more bytes, where
+-- fewer messages were heard than are needed
 abbrev pub asks_in : Decoding → ℕ → ℕ → ℕ → Bool → Hearing → Option Request
 asks_in d socket piece until true h = None
 asks_in d socket piece until false (lacks ms unread) = Some (to_receive socket (d.most piece unread) until)
@@ -79,16 +79,16 @@ pub record HasHeard {N : Type 0} (Becomes : N → List Call → N → Type 0) (d
   pub asked : AllAskedIn d socket piece until needs read ended calls
   pub ended_so : IsHearingEnd calls (ended_by ended calls) (heard_by d needs read ended calls) result heard
 
--- of these pieces fewer messages were heard than are needed, namely these, and as many bytes are asked for as what is kept
--- of them lets
+-- of these pieces fewer messages were heard than are needed, namely these, and as many bytes are asked for as what is
+-- kept of them lets
 pub record IsLacking (d : Decoding) (piece needs : ℕ) (read : List (List ℕ)) (ended : Bool) (u : Unread)
     (heard : List (List ℕ)) : Type 0 where
   pub unread : List ℕ
   pub fewer : d.hearing needs read ended ≡ lacks heard unread
   pub most : d.most piece unread ≡ most_of u
 
--- behind these pieces one call was made, which is asked for and was neither timed nor failed, and what is kept stands for
--- what was read then
+-- behind these pieces one call was made, which is asked for and was neither timed nor failed, and what is kept stands
+-- for what was read then
 pub record HasAskedMore {N : Type 0} (Becomes : N → List Call → N → Type 0) (d : Decoding) (fs : List Layer)
     (before after : N) (socket piece until needs : ℕ) (read : List (List ℕ)) (ended : Bool) (now_ended : Bool)
     (u : Unread) (heard : List (List ℕ)) : Type 0 where
@@ -138,3 +138,9 @@ IsCloser ended u (Ok (step.Message body)) ended' u' = count_given u' ≡ count_g
 IsCloser ended u (Ok step.More) ended' u' = (count_given u' ≡ count_given u) × (to_come ended' u' < to_come ended u)
 IsCloser ended u (Ok (step.Over o)) ended' u' = Unit {0}
 IsCloser ended u (Err none) ended' u' = Unit {0}
+
+-- as many messages were heard as are needed, so that the connection may go on
+abbrev pub IfAllHeard : Result (Option Outcome) NoMemory → Type 0 → Type 0
+IfAllHeard (Ok None) P = P
+IfAllHeard (Ok (Some o)) P = Unit {0}
+IfAllHeard (Err none) P = Unit {0}

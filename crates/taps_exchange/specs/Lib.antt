@@ -4,6 +4,7 @@ pub mod Turns
 pub mod WorkedExchanges
 pub mod Scripts
 pub mod Written
+pub mod Expiries
 pub mod Outcomes
 pub mod Alone
 pub mod Firsts

@@ -13,6 +13,7 @@ use Rattle.taps_connection.specs.Outboxes.{refused, all_out}
 use Rattle.taps_exchange.specs.declared.outcome.Outcome.{Outcome}
 use Rattle.taps_exchange.specs.declared.outcome.Outcome.TheVariants as outcome
 use Rattle.taps_exchange.specs.Decodings.{enough, lacks, breaks}
+use Rattle.taps_exchange.specs.Expiries.{ExpireInTime}
 use Rattle.taps_exchange.specs.Members.{Member, has_ended, outbox_after, hearing_after}
 use Rattle.taps_exchange.specs.Turns.{turn_alone, IsExchange}
 use Rattle.taps_exchange.specs.Written.{pieces_written, AllTookAll, HasSomeBytes, IsWritten}
@@ -94,11 +95,12 @@ abbrev pub count_failures : List Item → ℕ
 count_failures [] = 0
 count_failures (i ∷ items) = failures_by i + count_failures items
 
--- What an exchange says in other words: what was written; the cause of its outcome; one timed call where it is Timed,
--- and else none; and its items, of which at most one is a failure.
+-- What an exchange says in other words: what was written; by which times messages expired; the cause of its outcome;
+-- one timed call where it is Timed, and else none; and its items, of which at most one is a failure.
 pub record IsJudged (m : Member) (calls : List Call) (o : Outcome) : Type 0 where
   pub written : IsWritten m.encoding m.messages (outbox_after m calls) (pieces_written calls)
       (AllTookAll calls × HasSomeBytes m.encoding)
+  pub in_time : ExpireInTime m calls written.turned
   pub cause : HasCause m calls o
   pub timed : (n : ℕ) → timed_after calls n ≡ count_by o n
   pub items : AreExchangeItems m.socket (items_of calls)

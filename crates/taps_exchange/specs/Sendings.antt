@@ -1,5 +1,5 @@
--- How the accepted messages of a connection have their turn, whatever calls came before (RFC 9622 section 9.2). A list of
--- calls stands with its newest one first.
+-- How the accepted messages of a connection have their turn, whatever calls came before (RFC 9622 section 9.2). A list
+-- of calls stands with its newest one first.
 use Rattle.std.specs.Prelude.{◌≡◌, ℕ, List, [], ◌∷◌, Option, Some, None, Result, Ok, Err}
 use Rattle.taps_base.specs.declared.no_memory.NoMemory.{NoMemory}
 use Rattle.taps_socket.specs.Calls.{Call}
@@ -27,9 +27,10 @@ abbrev pub ends_out : ℕ → Option Outcome → Stand → Option Outcome
 ends_out place (Some o) stand = Some o
 ends_out place None stand = refused_at place stand
 
--- Such an outcome ended the sending; or there is none, and all messages had their turn. What is kept tells how many were
--- sent, and which expired first.
-pub record IsSentOut (place : ℕ) (calls : List Call) (box : Outbox) (stopped : Option Outcome) (t : Sender) : Type 0 where
+-- Such an outcome ended the sending; or there is none, and all messages had their turn. What is kept tells how many
+-- were sent, and which expired first.
+pub record IsSentOut (place : ℕ) (calls : List Call) (box : Outbox) (stopped : Option Outcome)
+    (t : Sender) : Type 0 where
   pub ends : ends_out place (stop calls) box.stand ≡ stopped
   pub all_had : stopped ≡ None → box.stand ≡ all_out
   pub sent : box.sent ≡ t.sent

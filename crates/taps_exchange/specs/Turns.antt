@@ -1,5 +1,5 @@
 -- Which call comes next in the exchange of a session, and how it ends (local; RFC 9622 sections 9.2 and 9.3).
-use Rattle.std.specs.Prelude.{◌≡◌, ℕ, ◌+◌, Bool, true, false, ◌||◌, ◌&&◌, ◌==◌, nat_lt, if◌then◌else◌, List, [], ◌∷◌, length, Option, Some, None}
+use Rattle.std.specs.Prelude.{◌≡◌, ℕ, ◌+◌, ◌-◌, Bool, true, false, ◌||◌, ◌&&◌, ◌==◌, nat_lt, if◌then◌else◌, List, [], ◌∷◌, length, slice_index_or, Option, Some, None}
 use Rattle.taps_socket.specs.declared.answers.SendAnswer.TheVariants as send
 use Rattle.taps_socket.specs.declared.answers.RecvAnswer.TheVariants as recv
 use Rattle.taps_socket.specs.Calls.{Call, sends, receives, Request, to_send, to_shut, to_receive, request_of}
@@ -80,34 +80,27 @@ pub record Place : Type 0 where
 abbrev pub stand_of : List Call → Place → Stand
 stand_of calls p = (outbox_after p.member (calls_on p.member.socket calls)).stand
 
--- a member with a message whose turn it is: its number by place, how it stands, and the place of that message
+-- a member with a message whose turn it is, or whose stream is to be ended behind it: its number by place, how it stands,
+-- and the place of that message
 pub record Waiting : Type 0 where
   pub place : Place
   pub number : ℕ
   pub stand : Stand
   pub order : ℕ
 
--- the place of the first of so many messages that had no turn
-abbrev pub order_behind : List Accepted → List ℕ → ℕ → ℕ
-order_behind [] (order ∷ orders) number = order
-order_behind (m ∷ messages) (order ∷ orders) number =
-    if m.number == number then order else order_behind messages orders number
-order_behind messages [] number = 0
+-- the place of the message whose turn it is, by those behind it
+abbrev pub order_before : Place → List Accepted → ℕ
+order_before p behind = slice_index_or p.orders (length p.member.messages - length behind - 1) 0
+
+abbrev pub waiting_at : Place → ℕ → Stand → List Accepted → Waiting
+waiting_at p place stand behind =
+    record { place = p; number = place; stand = stand; order = order_before p behind }
 
 abbrev pub waiting_by : Place → ℕ → Stand → Option Waiting
-waiting_by p place (begun number ends rest behind) = Some (record {
-  place = p;
-  number = place;
-  stand = begun number ends rest behind;
-  order = order_behind p.member.messages p.orders number;
-})
-waiting_by p place (refused number layer behind) = Some (record {
-  place = p;
-  number = place;
-  stand = refused number layer behind;
-  order = order_behind p.member.messages p.orders number;
-})
-waiting_by p place _ = None
+waiting_by p place (begun number ends rest behind) = Some (waiting_at p place (begun number ends rest behind) behind)
+waiting_by p place (ending behind) = Some (waiting_at p place (ending behind) behind)
+waiting_by p place (refused number layer behind) = Some (waiting_at p place (refused number layer behind) behind)
+waiting_by p place all_out = None
 
 -- the one with the least priority number, and on a tie with the message that was accepted first
 abbrev pub is_before : Waiting → Waiting → Bool
@@ -127,15 +120,6 @@ abbrev pub turn_sending : Option Waiting → Turn → Turn
 turn_sending None others = others
 turn_sending (Some w) others = turn_out w.place.member w.number w.stand others
 
--- the sending side of a member is ended behind its last message before another has its turn
-abbrev pub ending_by : Place → Stand → Turn → Turn
-ending_by p (ending behind) others = asks (to_shut p.member.socket)
-ending_by p _ others = others
-
-abbrev pub turns_ending : List Call → List Place → Turn → Turn
-turns_ending calls [] others = others
-turns_ending calls (p ∷ ps) others = ending_by p (stand_of calls p) (turns_ending calls ps others)
-
 -- the members hear by place
 abbrev pub turns_in : List Call → List Place → Turn → Turn
 turns_in calls [] others = others
@@ -153,10 +137,9 @@ outcome_by calls place (p ∷ ps) =
 abbrev pub turn_of_group : List Place → List Call → Turn
 turn_of_group places calls =
     unless (stop calls)
-    (turns_ending calls places
     (turn_sending (next_sender calls 0 places)
     (turns_in calls places
-    (over (outcome_by calls 0 places)))))
+    (over (outcome_by calls 0 places))))
 
 -- what an exchange is between: the members of a group that initiated
 pub data Role : Type 0 where

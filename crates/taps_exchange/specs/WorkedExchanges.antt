@@ -12,6 +12,7 @@ use Rattle.taps_connection.specs.Encodings.{Encoding, encoding_of}
 use Rattle.taps_exchange.specs.declared.outcome.Outcome.{Outcome}
 use Rattle.taps_exchange.specs.declared.outcome.Outcome.TheVariants as outcome
 use Rattle.taps_exchange.specs.Decodings.{First, message, need, bad, Decoding, framed_decoding, decoding_of, messages_of}
+use Rattle.taps_exchange.specs.Expiries.{HasPassedBySent}
 use Rattle.taps_exchange.specs.Members.{Member, calls_on, outbox_after, hearing_after}
 use Rattle.taps_exchange.specs.Turns.{Role, initiate, turn_of, IsExchange}
 
@@ -146,6 +147,8 @@ pub record RightExchanges (p : MessageProps) : Type 0 where
       outcome.Done 1 ((97 ∷ []) ∷ []) []
   pub refuses_an_empty_datagram : Has (datagrams (text p 0 0 [] None false ∷ []) 0) []
       (outcome.NotSpeakable 0 0 0) 0 [] []
+  pub expired_by_a_sent : HasPassedBySent 0 (sends 0 (0 ∷ 1 ∷ 97 ∷ []) 10000 (Sent 3 60) ∷ [])
+      (text p 1 10 (98 ∷ []) (Some 50) false)
 
 -- no exchange is so
 abbrev pub Wrong : Member → List Call → Outcome → Type 0
@@ -174,6 +177,12 @@ pub record WrongExchanges (p : MessageProps) : Type 0 where
   pub past_the_deadline : Wrong (in_8 (text p 0 0 hi None false ∷ []) 0 0 4096 2)
       (sends 0 (2 ∷ hi) 3 (Sent 3 1) ∷ []) outcome.Done
   pub a_stream_before_its_end : Wrong (plain [] 1) (receives 0 4096 90 hi (recv.Got 2 2) ∷ []) outcome.Done
+  pub expired_too_soon : HasPassedBySent 0 (sends 0 (0 ∷ 1 ∷ 97 ∷ []) 10000 (Sent 3 59) ∷ [])
+      (text p 1 10 (98 ∷ []) (Some 50) false) → ⊥
+  pub expired_by_a_receive : HasPassedBySent 0 (receives 0 4096 10000 hi (recv.Got 2 60) ∷ [])
+      (text p 1 10 (98 ∷ []) (Some 50) false) → ⊥
+  pub expired_without_a_lifetime : HasPassedBySent 0 (sends 0 (0 ∷ 1 ∷ 97 ∷ []) 10000 (Sent 3 60) ∷ [])
+      (text p 1 10 (98 ∷ []) None false) → ⊥
 
 -- two members: the one with the least priority number sends first, and on a tie the one whose message was accepted
 -- first; then the second one hears

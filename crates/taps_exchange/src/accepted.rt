@@ -13,8 +13,8 @@ use taps_connection::{Connection, Established};
 use taps_framer::Framer;
 use taps_message::{Message, PushError};
 
-// Hands a new connection messages at a time in milliseconds, in order. One that it refuses is passed
-// over.
+/// Hands a new connection messages at a time in milliseconds, in order. One that it refuses is passed
+/// over.
 pub fn accept_all(
     connection: &mut Connection<'_, Established>,
     messages: Vec<Message>,

@@ -98,8 +98,8 @@ fn exchange_messages<N: Sockets>(
         (length (layers_of ⟦<dyn Framer as Framer>⟧ connection.entry.chain)) →
         HasExchanged N.Becomes net.old net.new (N.net net.old) (N.net net.new)
         (member_over connection.entry.socket connection.entry.stack
-        (layers_of ⟦<dyn Framer as Framer>⟧ connection.entry.chain) (accepted_of at messages.items) at needs piece until)
-        result }
+        (layers_of ⟦<dyn Framer as Framer>⟧ connection.entry.chain) (accepted_of at messages.items) at needs piece
+        until) result }
 {
     match accept_all(&mut connection, messages, at) {
         Ok(()) => exchange(alloc, connection, needs, until, net),

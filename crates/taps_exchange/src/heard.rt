@@ -11,7 +11,7 @@ ghost use Rattle.taps_connection.specs.Unread.{count_given, IsWanting};
 ghost use Rattle.taps_stack.specs.StackTable.{is_stream};
 ghost use Rattle.taps_exchange.specs.Changes.{Changes};
 ghost use Rattle.taps_exchange.specs.Decodings.{Decoding, decoding_of};
-ghost use Rattle.taps_exchange.specs.Hearings.{Fits, HasHeard, HasStepped, IsLacking, IfGoesOn, IsCloser, one_unless};
+ghost use Rattle.taps_exchange.specs.Hearings.{Fits, HasHeard, HasStepped, IsLacking, IfAllHeard, IfGoesOn, IsCloser, one_unless};
 
 use crate::Outcome;
 use taps_base::{Body, NoMemory};
@@ -47,10 +47,14 @@ pub fn hear_until<N: Sockets, S: Open>(
         net.old net.new connection.old.socket piece until needs read connection.old.receiver.ended result
         (before ++ heard.new.items) }
     ensures changes { Changes connection.old.socket 1 (N.net net.old) (N.net net.new) }
+    ensures held { IfAllHeard result (IsHeld (N.net net.new).trace connection.old.socket
+        (is_stream connection.old.stack) connection.old.sender.shut connection.new.receiver.ended) }
     ensures kept { connection.new ≡
         record connection.old { receiver = connection.new.receiver; sender = connection.new.sender } }
     ensures sender { connection.new.sender ≡
         record connection.old.sender { moment = connection.new.sender.moment } }
+    ensures moment { connection.old.sender.moment ≤ (N.net net.old).told →
+        connection.new.sender.moment ≤ (N.net net.new).told }
 {
     'hearing: while connection.given() < needs {
         match hear_next(connection, until, net) {
@@ -118,6 +122,8 @@ fn hear_next<N: Sockets, S: Open>(
         record connection.old { receiver = connection.new.receiver; sender = connection.new.sender } }
     ensures sender { connection.new.sender ≡
         record connection.old.sender { moment = connection.new.sender.moment } }
+    ensures moment { connection.old.sender.moment ≤ (N.net net.old).told →
+        connection.new.sender.moment ≤ (N.net net.new).told }
 {
     match connection.receive() {
         Heard::Message(body) => Ok(Step::Message(body)),
@@ -165,6 +171,8 @@ fn ask_next<N: Sockets, S: Open>(
         record connection.old { receiver = connection.new.receiver; sender = connection.new.sender } }
     ensures sender { connection.new.sender ≡
         record connection.old.sender { moment = connection.new.sender.moment } }
+    ensures moment { connection.old.sender.moment ≤ (N.net net.old).told →
+        connection.new.sender.moment ≤ (N.net net.new).told }
 {
     if connection.has_ended() {
         return Ok(Step::Over(Outcome::PeerEnded));

@@ -12,6 +12,7 @@ mod outcome;
 mod sent;
 mod worked;
 
+pub use accepted::accept_all;
 pub use exchanged::{Exchanged, exchange, exchange_over};
 pub use heard::hear_until;
 pub use laws::{vouch_accepting, vouch_alone, vouch_hearing, vouch_outcomes, vouch_unique};

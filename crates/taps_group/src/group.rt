@@ -98,6 +98,21 @@ impl<'a> Group<'a> {
         &self.members[place as usize].connection
     }
 
+    /// The members, by place, each with the duty to close its connection.
+    pub fn into_members(self) -> Vec<Member<'a>>
+        ensures { result.items ≡ self.entry.members.items }
+    {
+        let Group {
+            members,
+            props: _,
+            order: _,
+            target: _,
+            chain: _,
+            piece: _,
+        } = self;
+        members
+    }
+
     // The allocator that the group keeps.
     pub(crate) fn allocator(&self) -> Global {
         *self.members.allocator()

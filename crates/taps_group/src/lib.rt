@@ -14,3 +14,4 @@ mod worked;
 
 pub use clone::CloneError;
 pub use group::Group;
+pub use member::Member;

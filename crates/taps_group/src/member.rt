@@ -9,8 +9,8 @@ use taps_connection::{Connection, Established};
 use taps_framer::Framer;
 use taps_message::{Message, PushError};
 
-// Its connection; its priority, of which the least is the most urgent; and, for each message that it
-// accepted, the place of that message among all that the group accepted.
+/// A member of a group: its connection; its priority, of which the least is the most urgent; and, for
+/// each message that it accepted, the place of that message among all that the group accepted.
 pub struct Member<'a> {
     pub connection: Connection<'a, Established>,
     pub priority: u64,

@@ -7,6 +7,7 @@ use Rattle.taps_exchange.specs.Hearings.{Fits, one_unless}
 use Rattle.taps_exchange.proofs.Behind.{unchanged, changes_by, pulled_own}
 use Rattle.taps_exchange.proofs.Kept.{fits_more}
 use Rattle.taps_exchange.proofs.HearingOn.{peer_ends, timed_ends, failed_ends, none_asked, got_more, end_more, got_closer, end_closer}
+use Rattle.taps_exchange.proofs.Moments.{moment_pulled}
 use Rattle.taps_exchange.proofs.heard.ask_next.Goals as goal
 
 pub returns-then-has_ended-clause-stepped : goal.returns-then-has_ended-clause-stepped
@@ -220,3 +221,27 @@ returns-in-NoMemory-clause-kept g c =
 pub returns-in-NoMemory-clause-sender : goal.returns-in-NoMemory-clause-sender
 returns-in-NoMemory-clause-sender g c =
     c.in-NoMemory.ensures.sender
+
+pub returns-then-has_ended-clause-moment : goal.returns-then-has_ended-clause-moment
+returns-then-has_ended-clause-moment g c =
+    λ h. h
+
+pub returns-in-Got-clause-moment : goal.returns-in-Got-clause-moment
+returns-in-Got-clause-moment g c =
+    moment_pulled g.N.Sockets.Becomes c.args.net.now c.drive_in.new.net (g.N.Sockets.net c.args.net.now) (g.N.Sockets.net c.drive_in.new.net) c.args.connection.now.socket c.args.until (inbox_of c.args.connection.now.receiver c.args.connection.now.sender.moment) (inbox_of c.drive_in.new.self.receiver c.drive_in.new.self.sender.moment) pulled.Got c.in-Got.ensures.pulled
+
+pub returns-in-Ended-clause-moment : goal.returns-in-Ended-clause-moment
+returns-in-Ended-clause-moment g c =
+    moment_pulled g.N.Sockets.Becomes c.args.net.now c.drive_in.new.net (g.N.Sockets.net c.args.net.now) (g.N.Sockets.net c.drive_in.new.net) c.args.connection.now.socket c.args.until (inbox_of c.args.connection.now.receiver c.args.connection.now.sender.moment) (inbox_of c.drive_in.new.self.receiver c.drive_in.new.self.sender.moment) pulled.Ended c.in-Ended.ensures.pulled
+
+pub returns-in-Timed-clause-moment : goal.returns-in-Timed-clause-moment
+returns-in-Timed-clause-moment g c =
+    moment_pulled g.N.Sockets.Becomes c.args.net.now c.drive_in.new.net (g.N.Sockets.net c.args.net.now) (g.N.Sockets.net c.drive_in.new.net) c.args.connection.now.socket c.args.until (inbox_of c.args.connection.now.receiver c.args.connection.now.sender.moment) (inbox_of c.drive_in.new.self.receiver c.drive_in.new.self.sender.moment) (pulled.Timed c.in-Timed.field-0) c.in-Timed.ensures.pulled
+
+pub returns-in-Failed-clause-moment : goal.returns-in-Failed-clause-moment
+returns-in-Failed-clause-moment g c =
+    moment_pulled g.N.Sockets.Becomes c.args.net.now c.drive_in.new.net (g.N.Sockets.net c.args.net.now) (g.N.Sockets.net c.drive_in.new.net) c.args.connection.now.socket c.args.until (inbox_of c.args.connection.now.receiver c.args.connection.now.sender.moment) (inbox_of c.drive_in.new.self.receiver c.drive_in.new.self.sender.moment) (pulled.Failed c.in-Failed.cause) c.in-Failed.ensures.pulled
+
+pub returns-in-NoMemory-clause-moment : goal.returns-in-NoMemory-clause-moment
+returns-in-NoMemory-clause-moment g c =
+    moment_pulled g.N.Sockets.Becomes c.args.net.now c.drive_in.new.net (g.N.Sockets.net c.args.net.now) (g.N.Sockets.net c.drive_in.new.net) c.args.connection.now.socket c.args.until (inbox_of c.args.connection.now.receiver c.args.connection.now.sender.moment) (inbox_of c.drive_in.new.self.receiver c.drive_in.new.self.sender.moment) pulled.NoMemory c.in-NoMemory.ensures.pulled

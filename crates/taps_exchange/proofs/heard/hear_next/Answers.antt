@@ -175,3 +175,19 @@ returns-in-Need-clause-kept g c =
 pub returns-in-Need-clause-sender : goal.returns-in-Need-clause-sender
 returns-in-Need-clause-sender g c =
     sender_then c.args.connection.now.sender c.receive.new.self.sender c.ask_next.new.connection.sender (sender_receive c.args.connection.now c.receive.new.self c.receive.ensures.kept) c.ask_next.ensures.sender
+
+pub returns-in-Message-clause-moment : goal.returns-in-Message-clause-moment
+returns-in-Message-clause-moment g c =
+    λ h. subst (λ v. v.moment ≤ (g.N.Sockets.net c.args.net.now).told) (sym (sender_receive c.args.connection.now c.receive.new.self c.in-Message.ensures.kept)) h
+
+pub returns-in-Bad-clause-moment : goal.returns-in-Bad-clause-moment
+returns-in-Bad-clause-moment g c =
+    λ h. subst (λ v. v.moment ≤ (g.N.Sockets.net c.args.net.now).told) (sym (sender_receive c.args.connection.now c.receive.new.self c.in-Bad.ensures.kept)) h
+
+pub returns-in-NoMemory-clause-moment : goal.returns-in-NoMemory-clause-moment
+returns-in-NoMemory-clause-moment g c =
+    λ h. subst (λ v. v.moment ≤ (g.N.Sockets.net c.args.net.now).told) (sym (sender_receive c.args.connection.now c.receive.new.self c.in-NoMemory.ensures.kept)) h
+
+pub returns-in-Need-clause-moment : goal.returns-in-Need-clause-moment
+returns-in-Need-clause-moment g c =
+    λ h. c.ask_next.ensures.moment (subst (λ v. v.moment ≤ (g.N.Sockets.net c.args.net.now).told) (sym (sender_receive c.args.connection.now c.receive.new.self c.receive.ensures.kept)) h)

@@ -28,6 +28,7 @@ hearing-init g c =
       spare = omega arith;
       kept = refl;
       sender = refl;
+      moment = λ h. h;
     }
 
 pub hear_next-requires-clause-framers : goal.hear_next-requires-clause-framers
@@ -87,6 +88,7 @@ hearing-preserved-in-Ok g c =
       spare = (let s = i.spare in let t = k.spare in omega (arith, s, t));
       kept = kept_both c.args.connection.now c.hearing.connection c.hear_next.new.connection i.kept e.kept;
       sender = sender_both c.args.connection.now.sender c.hearing.connection.sender c.hear_next.new.connection.sender i.sender e.sender;
+      moment = λ h. e.moment (i.moment h);
     }
 
 pub hearing-smaller : goal.hearing-smaller
@@ -119,6 +121,7 @@ hearing-preserved g c =
       spare = (let s = i.spare in let t = k.spare in omega (arith, s, t));
       kept = kept_both c.args.connection.now c.hearing.connection c.hear_next.new.connection i.kept e.kept;
       sender = sender_both c.args.connection.now.sender c.hearing.connection.sender c.hear_next.new.connection.sender i.sender e.sender;
+      moment = λ h. e.moment (i.moment h);
     }
 
 pub returns-in-Err-push-clause-heard : goal.returns-in-Err-push-clause-heard
@@ -223,3 +226,23 @@ returns-clause-kept g c =
 pub returns-clause-sender : goal.returns-clause-sender
 returns-clause-sender g c =
     c.hearing.invariant.sender
+
+pub returns-in-Err-push-clause-moment : goal.returns-in-Err-push-clause-moment
+returns-in-Err-push-clause-moment g c =
+    λ h. c.in-Ok-Message.ensures.moment (c.hearing.invariant.moment h)
+
+pub returns-in-Ok-Over-clause-moment : goal.returns-in-Ok-Over-clause-moment
+returns-in-Ok-Over-clause-moment g c =
+    λ h. c.in-Ok-Over.ensures.moment (c.hearing.invariant.moment h)
+
+pub returns-in-Err-clause-moment : goal.returns-in-Err-clause-moment
+returns-in-Err-clause-moment g c =
+    λ h. c.in-Err.ensures.moment (c.hearing.invariant.moment h)
+
+pub returns-clause-moment : goal.returns-clause-moment
+returns-clause-moment g c =
+    c.hearing.invariant.moment
+
+pub returns-clause-held : goal.returns-clause-held
+returns-clause-held g c =
+    c.hearing.invariant.held

@@ -31,6 +31,7 @@ invariant-hearing g l =
       spare : (g.N.Sockets.net l.fn.net).spare + one_unless l.connection.receiver.ended ≤ (g.N.Sockets.net l.net).spare + one_unless l.fn.connection.receiver.ended;
       kept : l.connection ≡ record l.fn.connection { receiver = l.connection.receiver; sender = l.connection.sender };
       sender : l.connection.sender ≡ record l.fn.connection.sender { moment = l.connection.sender.moment };
+      moment : l.fn.connection.sender.moment ≤ (g.N.Sockets.net l.fn.net).told → l.connection.sender.moment ≤ (g.N.Sockets.net l.net).told;
     }
 
 abbrev pub decreases-hearing : goal.decreases-hearing
