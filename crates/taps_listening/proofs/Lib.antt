@@ -1,0 +1,17 @@
+pub mod WorkedListening
+pub mod Keeping
+pub mod Serves
+pub mod Sending
+pub mod Hearing
+pub mod Lifting
+pub mod Traces
+pub mod ListeningOn
+pub mod Going
+pub mod SoFar
+pub mod Onces
+pub mod Covers
+pub mod Closed
+pub mod Counted
+pub mod Finishing
+pub mod Rightly
+pub mod Ending

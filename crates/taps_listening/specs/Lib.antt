@@ -1,0 +1,9 @@
+pub mod AnsweredStates
+pub mod ListenRules
+pub mod Serving
+pub mod Listening
+pub mod WorkedListening
+pub mod Served
+pub mod Accepts
+pub mod Listened
+pub mod Ends
