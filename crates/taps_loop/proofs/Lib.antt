@@ -1,0 +1,15 @@
+mod WorkedLoops
+pub mod Own
+pub mod Running
+pub mod Lookings
+pub mod Sendings
+pub mod Hearings
+pub mod Findings
+pub mod Roundings
+pub mod GoingRound
+pub mod Moving
+pub mod Starting
+pub mod Going
+pub mod Closings
+pub mod Acceptings
+pub mod Loopings

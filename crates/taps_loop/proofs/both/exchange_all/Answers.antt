@@ -1,0 +1,24 @@
+use Rattle.std.proofs.Common.{◌≡◌, [], ℕ, length, sym, ap, subst, ◌∙◌}
+use Rattle.taps_chain.specs.Layers.{layers_of}
+use Rattle.taps_stack.specs.StackTable.{is_stream}
+use Rattle.taps_connection.specs.Encodings.{encoding_of}
+use Rattle.taps_connection.specs.Histories.{Represents}
+use Rattle.taps_connection.specs.Senders.{queued}
+use Rattle.taps_connection.specs.Sources.{unread_of}
+use Rattle.taps_connection.specs.Unread.{first_unread}
+use Rattle.taps_loop.specs.Loops.{Ends}
+use Rattle.taps_loop.specs.Rounds.{AreEnds, AreKept}
+use Rattle.taps_loop.specs.Looped.{HasClosedBoth}
+use Rattle.taps_loop.proofs.Acceptings.{ends_of, kept_first}
+use Rattle.taps_loop.proofs.both.exchange_all.Goals as goal
+
+pub returns-in-Ok-clause-closed : goal.returns-in-Ok-clause-closed
+returns-in-Ok-clause-closed g c =
+    λ x piece unread over.
+    let same = c.requires.same in
+    let ends = subst (λ fs. AreEnds x (encoding_of (is_stream c.args.from.stack) (layers_of (λ vtable. (g.dyn-1.0.entry vtable).1) c.args.from.chain)) c.args.from.socket (is_stream c.args.to.stack) fs c.args.to.socket piece c.args.deadline) (sym same) (ends_of x c.args.from.socket c.args.from.stack c.args.to.socket c.args.to.stack (layers_of (λ vtable. (g.dyn-1.0.entry vtable).1) c.args.from.chain) c.args.messages.items c.args.at piece c.args.deadline over c.requires.apart) in
+    let first = kept_first x c.args.from.socket c.args.from.stack c.args.to.socket c.args.to.stack (layers_of (λ vtable. (g.dyn-1.0.entry vtable).1) c.args.from.chain) c.args.messages.items c.args.at piece c.args.deadline over c.requires.apart c.accept_all.new.connection.sender (g.N.Sockets.net c.args.net.now).told c.args.to.receiver.ended (unread_of c.args.to.receiver.source) c.requires.framers c.in-Ok.ensures.fresh c.in-Ok.ensures.moment c.in-Ok.ensures.accepted c.requires.told c.requires.goes_on
+    (unread ∙ ap (λ fs. first_unread c.args.to.stack piece (length fs)) same) (subst (λ fs. Represents fs c.args.to.receiver.ended (unread_of c.args.to.receiver.source) [] []) same c.requires.represents) in
+    let kept = subst (λ fs. AreKept x [] (encoding_of (is_stream c.args.from.stack) (layers_of (λ vtable. (g.dyn-1.0.entry vtable).1) c.args.from.chain)) (is_stream c.args.to.stack) fs piece c.accept_all.new.connection.sender (g.N.Sockets.net c.args.net.now).told c.args.to.receiver.ended (unread_of c.args.to.receiver.source) []) (sym same) first in
+    let opened = subst (λ z. (x : Ends) (piece : ℕ) → AreEnds x (encoding_of (is_stream z.stack) (layers_of (λ vtable. (g.dyn-1.0.entry vtable).1) z.chain)) z.socket (is_stream c.args.to.stack) (layers_of (λ vtable. (g.dyn-1.0.entry vtable).1) c.args.to.chain) c.args.to.socket piece c.args.deadline → AreKept x [] (encoding_of (is_stream z.stack) (layers_of (λ vtable. (g.dyn-1.0.entry vtable).1) z.chain)) (is_stream c.args.to.stack) (layers_of (λ vtable. (g.dyn-1.0.entry vtable).1) c.args.to.chain) piece c.accept_all.new.connection.sender (g.N.Sockets.net c.args.net.now).told c.args.to.receiver.ended (unread_of c.args.to.receiver.source) [] → x.from.messages ≡ queued c.accept_all.new.connection.sender → HasClosedBoth g.N.Sockets.Becomes x z.socket c.args.to.socket c.args.net.now c.exchange_open.new.net c.exchange_open.result) c.in-Ok.ensures.kept c.exchange_open.ensures.closed in
+    opened x piece ends kept (over.messages_is ∙ sym c.in-Ok.ensures.accepted)

@@ -1,0 +1,70 @@
+use Rattle.std.proofs.Common.{◌≤◌, ◌+◌, ℕ, List, subst, arith}
+use Rattle.std.specs.Prelude.{Ok, Err}
+use Rattle.taps_chain.specs.Layers.{layers_of}
+use Rattle.taps_stack.specs.StackTable.{is_stream}
+use Rattle.taps_socket.specs.Calls.{Call}
+use Rattle.taps_connection.specs.declared.sender.Sender.{Sender}
+use Rattle.taps_connection.specs.Conditions.{IsHeld}
+use Rattle.taps_connection.specs.Encodings.{encoding_of}
+use Rattle.taps_connection.specs.Inboxes.{IsSoundReceiver}
+use Rattle.taps_connection.specs.Senders.{rest_of}
+use Rattle.taps_connection.specs.Sound.{IsSound}
+use Rattle.taps_connection.specs.Sources.{unread_of}
+use Rattle.taps_exchange.specs.Hearings.{one_unless}
+use Rattle.taps_exchange.proofs.HearingOn.{kept_both, sender_both}
+use Rattle.taps_exchange.proofs.SendingAll.{kept_on}
+use Rattle.taps_loop.specs.Loops.{Ends}
+use Rattle.taps_loop.specs.Rounds.{AreEnds, AreKept, Stands, HasRounded, IfAgain, Lags, Moves}
+use Rattle.taps_loop.proofs.Moving.{moves_on}
+use Rattle.taps_loop.proofs.Going.{goes_again, goes_over, goes_short}
+use Rattle.taps_loop.proofs.turns.go_rounds.Goals as goal
+
+pub turns-preserved : goal.turns-preserved
+turns-preserved g c =
+    let i = c.turns.invariant in
+    let more = subst (λ r. IfAgain (Ok r) (λ again. (g.N.Sockets.net c.turns.net).spare + (one_unless c.go_round.new.from.sender.shut + one_unless c.go_round.new.to.receiver.ended) ≤ (g.N.Sockets.net c.go_round.new.net).spare + (one_unless c.turns.from.sender.shut + one_unless c.turns.to.receiver.ended))) c.in-Ok-Again.field-0-is c.in-Ok-Again.ensures.spare in
+    record {
+      goes = λ x piece ends kept stands.
+          let k = i.goes x piece ends kept stands in
+          let rounded = subst (λ z. (x : Ends) (calls : List Call) (piece : ℕ) → AreEnds x (encoding_of (is_stream c.args.from.now.stack) (layers_of (λ vtable. (g.dyn-1.0.entry vtable).1) c.args.from.now.chain)) c.args.from.now.socket (is_stream z.stack) (layers_of (λ vtable. (g.dyn-1.0.entry vtable).1) z.chain) z.socket piece c.args.deadline → AreKept x calls (encoding_of (is_stream c.args.from.now.stack) (layers_of (λ vtable. (g.dyn-1.0.entry vtable).1) c.args.from.now.chain)) (is_stream z.stack) (layers_of (λ vtable. (g.dyn-1.0.entry vtable).1) z.chain) piece c.turns.from.sender (g.N.Sockets.net c.turns.net).told c.turns.to.receiver.ended (unread_of c.turns.to.receiver.source) c.turns.heard.items → Stands x calls c.turns.from.sender c.turns.heard.items c.turns.enough → HasRounded g.N.Sockets.Becomes x calls (encoding_of (is_stream c.args.from.now.stack) (layers_of (λ vtable. (g.dyn-1.0.entry vtable).1) c.args.from.now.chain)) (is_stream z.stack) (layers_of (λ vtable. (g.dyn-1.0.entry vtable).1) z.chain) piece c.turns.net c.go_round.new.net (Ok c.in-Ok-Again.field-0) c.go_round.new.from.sender (g.N.Sockets.net c.go_round.new.net).told c.go_round.new.to.receiver.ended (unread_of c.go_round.new.to.receiver.source) c.go_round.new.heard.items) i.kept (subst (λ z. (x : Ends) (calls : List Call) (piece : ℕ) → AreEnds x (encoding_of (is_stream z.stack) (layers_of (λ vtable. (g.dyn-1.0.entry vtable).1) z.chain)) z.socket (is_stream c.turns.to.stack) (layers_of (λ vtable. (g.dyn-1.0.entry vtable).1) c.turns.to.chain) c.turns.to.socket piece c.args.deadline → AreKept x calls (encoding_of (is_stream z.stack) (layers_of (λ vtable. (g.dyn-1.0.entry vtable).1) z.chain)) (is_stream c.turns.to.stack) (layers_of (λ vtable. (g.dyn-1.0.entry vtable).1) c.turns.to.chain) piece c.turns.from.sender (g.N.Sockets.net c.turns.net).told c.turns.to.receiver.ended (unread_of c.turns.to.receiver.source) c.turns.heard.items → Stands x calls c.turns.from.sender c.turns.heard.items c.turns.enough → HasRounded g.N.Sockets.Becomes x calls (encoding_of (is_stream z.stack) (layers_of (λ vtable. (g.dyn-1.0.entry vtable).1) z.chain)) (is_stream c.turns.to.stack) (layers_of (λ vtable. (g.dyn-1.0.entry vtable).1) c.turns.to.chain) piece c.turns.net c.go_round.new.net (Ok c.in-Ok-Again.field-0) c.go_round.new.from.sender (g.N.Sockets.net c.go_round.new.net).told c.go_round.new.to.receiver.ended (unread_of c.go_round.new.to.receiver.source) c.go_round.new.heard.items) i.sender_kept c.in-Ok-Again.ensures.rounded) in
+          goes_again g.N.Sockets.Becomes x (encoding_of (is_stream c.args.from.now.stack) (layers_of (λ vtable. (g.dyn-1.0.entry vtable).1) c.args.from.now.chain)) (is_stream c.args.to.now.stack) (layers_of (λ vtable. (g.dyn-1.0.entry vtable).1) c.args.to.now.chain) piece c.args.net.now c.turns.net c.go_round.new.net c.turns.from.sender c.go_round.new.from.sender (g.N.Sockets.net c.turns.net).told (g.N.Sockets.net c.go_round.new.net).told c.turns.to.receiver.ended c.go_round.new.to.receiver.ended (unread_of c.turns.to.receiver.source) (unread_of c.go_round.new.to.receiver.source) c.turns.heard.items c.go_round.new.heard.items c.turns.enough g.met.N.Sockets.becomes_on k c.in-Ok-Again.again (subst (λ r. HasRounded g.N.Sockets.Becomes x k.calls (encoding_of (is_stream c.args.from.now.stack) (layers_of (λ vtable. (g.dyn-1.0.entry vtable).1) c.args.from.now.chain)) (is_stream c.args.to.now.stack) (layers_of (λ vtable. (g.dyn-1.0.entry vtable).1) c.args.to.now.chain) piece c.turns.net c.go_round.new.net (Ok r) c.go_round.new.from.sender (g.N.Sockets.net c.go_round.new.net).told c.go_round.new.to.receiver.ended (unread_of c.go_round.new.to.receiver.source) c.go_round.new.heard.items) c.in-Ok-Again.field-0-is (rounded x k.calls piece ends k.kept k.stands));
+      sends = subst (λ z. IsSound (is_stream z.stack) (layers_of (λ vtable. (g.dyn-1.0.entry vtable).1) z.chain) c.go_round.new.from.sender) i.sender_kept c.in-Ok-Again.ensures.sends;
+      holds = subst (λ z. IsHeld (g.N.Sockets.net c.go_round.new.net).trace z.socket (is_stream z.stack) c.go_round.new.from.sender.shut z.receiver.ended) i.sender_kept
+          (subst (λ r. IfAgain (Ok r) (λ again. IsHeld (g.N.Sockets.net c.go_round.new.net).trace c.turns.from.socket (is_stream c.turns.from.stack) c.go_round.new.from.sender.shut c.turns.from.receiver.ended)) c.in-Ok-Again.field-0-is c.in-Ok-Again.ensures.holds);
+      room = subst (λ z. rest_of c.go_round.new.from.sender ≤ ((g.N.Sockets.net c.go_round.new.net).traffic z.socket).room) i.sender_kept (subst (λ r. IfAgain (Ok r) (λ again. rest_of c.go_round.new.from.sender ≤ ((g.N.Sockets.net c.go_round.new.net).traffic c.turns.from.socket).room)) c.in-Ok-Again.field-0-is c.in-Ok-Again.ensures.room);
+      rest = c.in-Ok-Again.ensures.rest;
+      sound = subst (λ z. IsSoundReceiver (λ vtable. (g.dyn-1.0.entry vtable).1) z.stack (layers_of (λ vtable. (g.dyn-1.0.entry vtable).1) z.chain) c.go_round.new.to.receiver) i.kept c.in-Ok-Again.ensures.sound;
+      held = subst (λ (z : Sender). IsHeld (g.N.Sockets.net c.go_round.new.net).trace c.args.to.now.socket (is_stream c.args.to.now.stack) z.shut c.go_round.new.to.receiver.ended) i.moment
+          (subst (λ z. IsHeld (g.N.Sockets.net c.go_round.new.net).trace z.socket (is_stream z.stack) c.turns.to.sender.shut c.go_round.new.to.receiver.ended) i.kept
+          (subst (λ r. IfAgain (Ok r) (λ again. IsHeld (g.N.Sockets.net c.go_round.new.net).trace c.turns.to.socket (is_stream c.turns.to.stack) c.turns.to.sender.shut c.go_round.new.to.receiver.ended)) c.in-Ok-Again.field-0-is c.in-Ok-Again.ensures.held));
+      lags = subst (λ r. IfAgain (Ok r) (λ again. Lags again c.go_round.new.from.sender (unread_of c.go_round.new.to.receiver.source))) c.in-Ok-Again.field-0-is c.in-Ok-Again.ensures.lags;
+      spare = (let before = i.spare in omega (arith, before, more));
+      moves = moves_on c.args.from.now.socket c.args.to.now.socket (g.N.Sockets.net c.args.net.now) (g.N.Sockets.net c.turns.net) (g.N.Sockets.net c.go_round.new.net) i.moves (subst (λ z. Moves c.args.from.now.socket z.socket (g.N.Sockets.net c.turns.net) (g.N.Sockets.net c.go_round.new.net)) i.kept (subst (λ z. Moves z.socket c.turns.to.socket (g.N.Sockets.net c.turns.net) (g.N.Sockets.net c.go_round.new.net)) i.sender_kept c.in-Ok-Again.ensures.moves));
+      sender_kept = kept_on c.args.from.now c.turns.from c.go_round.new.from i.sender_kept c.in-Ok-Again.ensures.sender_kept;
+      kept = kept_both c.args.to.now c.turns.to c.go_round.new.to i.kept c.in-Ok-Again.ensures.kept;
+      moment = sender_both c.args.to.now.sender c.turns.to.sender c.go_round.new.to.sender i.moment c.in-Ok-Again.ensures.moment;
+    }
+
+pub returns-in-Ok-Over-clause-taken : goal.returns-in-Ok-Over-clause-taken
+returns-in-Ok-Over-clause-taken g c =
+    let i = c.turns.invariant in
+    λ x piece ends kept stands.
+    let k = i.goes x piece ends kept stands in
+    let rounded = subst (λ z. (x : Ends) (calls : List Call) (piece : ℕ) → AreEnds x (encoding_of (is_stream c.args.from.now.stack) (layers_of (λ vtable. (g.dyn-1.0.entry vtable).1) c.args.from.now.chain)) c.args.from.now.socket (is_stream z.stack) (layers_of (λ vtable. (g.dyn-1.0.entry vtable).1) z.chain) z.socket piece c.args.deadline → AreKept x calls (encoding_of (is_stream c.args.from.now.stack) (layers_of (λ vtable. (g.dyn-1.0.entry vtable).1) c.args.from.now.chain)) (is_stream z.stack) (layers_of (λ vtable. (g.dyn-1.0.entry vtable).1) z.chain) piece c.turns.from.sender (g.N.Sockets.net c.turns.net).told c.turns.to.receiver.ended (unread_of c.turns.to.receiver.source) c.turns.heard.items → Stands x calls c.turns.from.sender c.turns.heard.items c.turns.enough → HasRounded g.N.Sockets.Becomes x calls (encoding_of (is_stream c.args.from.now.stack) (layers_of (λ vtable. (g.dyn-1.0.entry vtable).1) c.args.from.now.chain)) (is_stream z.stack) (layers_of (λ vtable. (g.dyn-1.0.entry vtable).1) z.chain) piece c.turns.net c.go_round.new.net (Ok c.in-Ok-Over.field-0) c.go_round.new.from.sender (g.N.Sockets.net c.go_round.new.net).told c.go_round.new.to.receiver.ended (unread_of c.go_round.new.to.receiver.source) c.go_round.new.heard.items) i.kept (subst (λ z. (x : Ends) (calls : List Call) (piece : ℕ) → AreEnds x (encoding_of (is_stream z.stack) (layers_of (λ vtable. (g.dyn-1.0.entry vtable).1) z.chain)) z.socket (is_stream c.turns.to.stack) (layers_of (λ vtable. (g.dyn-1.0.entry vtable).1) c.turns.to.chain) c.turns.to.socket piece c.args.deadline → AreKept x calls (encoding_of (is_stream z.stack) (layers_of (λ vtable. (g.dyn-1.0.entry vtable).1) z.chain)) (is_stream c.turns.to.stack) (layers_of (λ vtable. (g.dyn-1.0.entry vtable).1) c.turns.to.chain) piece c.turns.from.sender (g.N.Sockets.net c.turns.net).told c.turns.to.receiver.ended (unread_of c.turns.to.receiver.source) c.turns.heard.items → Stands x calls c.turns.from.sender c.turns.heard.items c.turns.enough → HasRounded g.N.Sockets.Becomes x calls (encoding_of (is_stream z.stack) (layers_of (λ vtable. (g.dyn-1.0.entry vtable).1) z.chain)) (is_stream c.turns.to.stack) (layers_of (λ vtable. (g.dyn-1.0.entry vtable).1) c.turns.to.chain) piece c.turns.net c.go_round.new.net (Ok c.in-Ok-Over.field-0) c.go_round.new.from.sender (g.N.Sockets.net c.go_round.new.net).told c.go_round.new.to.receiver.ended (unread_of c.go_round.new.to.receiver.source) c.go_round.new.heard.items) i.sender_kept c.in-Ok-Over.ensures.rounded) in
+    goes_over g.N.Sockets.Becomes x (encoding_of (is_stream c.args.from.now.stack) (layers_of (λ vtable. (g.dyn-1.0.entry vtable).1) c.args.from.now.chain)) (is_stream c.args.to.now.stack) (layers_of (λ vtable. (g.dyn-1.0.entry vtable).1) c.args.to.now.chain) piece c.args.net.now c.turns.net c.go_round.new.net c.turns.from.sender c.go_round.new.from.sender (g.N.Sockets.net c.turns.net).told (g.N.Sockets.net c.go_round.new.net).told c.turns.to.receiver.ended c.go_round.new.to.receiver.ended (unread_of c.turns.to.receiver.source) (unread_of c.go_round.new.to.receiver.source) c.turns.heard.items c.go_round.new.heard.items c.turns.enough g.met.N.Sockets.becomes_on k c.in-Ok-Over.outcome (subst (λ r. HasRounded g.N.Sockets.Becomes x k.calls (encoding_of (is_stream c.args.from.now.stack) (layers_of (λ vtable. (g.dyn-1.0.entry vtable).1) c.args.from.now.chain)) (is_stream c.args.to.now.stack) (layers_of (λ vtable. (g.dyn-1.0.entry vtable).1) c.args.to.now.chain) piece c.turns.net c.go_round.new.net (Ok r) c.go_round.new.from.sender (g.N.Sockets.net c.go_round.new.net).told c.go_round.new.to.receiver.ended (unread_of c.go_round.new.to.receiver.source) c.go_round.new.heard.items) c.in-Ok-Over.field-0-is (rounded x k.calls piece ends k.kept k.stands))
+
+pub returns-in-Err-clause-taken : goal.returns-in-Err-clause-taken
+returns-in-Err-clause-taken g c =
+    let i = c.turns.invariant in
+    λ x piece ends kept stands.
+    let k = i.goes x piece ends kept stands in
+    let rounded = subst (λ z. (x : Ends) (calls : List Call) (piece : ℕ) → AreEnds x (encoding_of (is_stream c.args.from.now.stack) (layers_of (λ vtable. (g.dyn-1.0.entry vtable).1) c.args.from.now.chain)) c.args.from.now.socket (is_stream z.stack) (layers_of (λ vtable. (g.dyn-1.0.entry vtable).1) z.chain) z.socket piece c.args.deadline → AreKept x calls (encoding_of (is_stream c.args.from.now.stack) (layers_of (λ vtable. (g.dyn-1.0.entry vtable).1) c.args.from.now.chain)) (is_stream z.stack) (layers_of (λ vtable. (g.dyn-1.0.entry vtable).1) z.chain) piece c.turns.from.sender (g.N.Sockets.net c.turns.net).told c.turns.to.receiver.ended (unread_of c.turns.to.receiver.source) c.turns.heard.items → Stands x calls c.turns.from.sender c.turns.heard.items c.turns.enough → HasRounded g.N.Sockets.Becomes x calls (encoding_of (is_stream c.args.from.now.stack) (layers_of (λ vtable. (g.dyn-1.0.entry vtable).1) c.args.from.now.chain)) (is_stream z.stack) (layers_of (λ vtable. (g.dyn-1.0.entry vtable).1) z.chain) piece c.turns.net c.go_round.new.net (Err c.in-Err.none) c.go_round.new.from.sender (g.N.Sockets.net c.go_round.new.net).told c.go_round.new.to.receiver.ended (unread_of c.go_round.new.to.receiver.source) c.go_round.new.heard.items) i.kept (subst (λ z. (x : Ends) (calls : List Call) (piece : ℕ) → AreEnds x (encoding_of (is_stream z.stack) (layers_of (λ vtable. (g.dyn-1.0.entry vtable).1) z.chain)) z.socket (is_stream c.turns.to.stack) (layers_of (λ vtable. (g.dyn-1.0.entry vtable).1) c.turns.to.chain) c.turns.to.socket piece c.args.deadline → AreKept x calls (encoding_of (is_stream z.stack) (layers_of (λ vtable. (g.dyn-1.0.entry vtable).1) z.chain)) (is_stream c.turns.to.stack) (layers_of (λ vtable. (g.dyn-1.0.entry vtable).1) c.turns.to.chain) piece c.turns.from.sender (g.N.Sockets.net c.turns.net).told c.turns.to.receiver.ended (unread_of c.turns.to.receiver.source) c.turns.heard.items → Stands x calls c.turns.from.sender c.turns.heard.items c.turns.enough → HasRounded g.N.Sockets.Becomes x calls (encoding_of (is_stream z.stack) (layers_of (λ vtable. (g.dyn-1.0.entry vtable).1) z.chain)) (is_stream c.turns.to.stack) (layers_of (λ vtable. (g.dyn-1.0.entry vtable).1) c.turns.to.chain) piece c.turns.net c.go_round.new.net (Err c.in-Err.none) c.go_round.new.from.sender (g.N.Sockets.net c.go_round.new.net).told c.go_round.new.to.receiver.ended (unread_of c.go_round.new.to.receiver.source) c.go_round.new.heard.items) i.sender_kept c.in-Err.ensures.rounded) in
+    goes_short g.N.Sockets.Becomes x (encoding_of (is_stream c.args.from.now.stack) (layers_of (λ vtable. (g.dyn-1.0.entry vtable).1) c.args.from.now.chain)) (is_stream c.args.to.now.stack) (layers_of (λ vtable. (g.dyn-1.0.entry vtable).1) c.args.to.now.chain) piece c.args.net.now c.turns.net c.go_round.new.net c.turns.from.sender c.go_round.new.from.sender (g.N.Sockets.net c.turns.net).told (g.N.Sockets.net c.go_round.new.net).told c.turns.to.receiver.ended c.go_round.new.to.receiver.ended (unread_of c.turns.to.receiver.source) (unread_of c.go_round.new.to.receiver.source) c.turns.heard.items c.go_round.new.heard.items c.turns.enough g.met.N.Sockets.becomes_on k c.in-Err.none (rounded x k.calls piece ends k.kept k.stands)
+
+pub returns-in-Ok-Over-clause-moves : goal.returns-in-Ok-Over-clause-moves
+returns-in-Ok-Over-clause-moves g c =
+    let i = c.turns.invariant in moves_on c.args.from.now.socket c.args.to.now.socket (g.N.Sockets.net c.args.net.now) (g.N.Sockets.net c.turns.net) (g.N.Sockets.net c.go_round.new.net) i.moves (subst (λ z. Moves c.args.from.now.socket z.socket (g.N.Sockets.net c.turns.net) (g.N.Sockets.net c.go_round.new.net)) i.kept (subst (λ z. Moves z.socket c.turns.to.socket (g.N.Sockets.net c.turns.net) (g.N.Sockets.net c.go_round.new.net)) i.sender_kept c.in-Ok-Over.ensures.moves))
+
+pub returns-in-Err-clause-moves : goal.returns-in-Err-clause-moves
+returns-in-Err-clause-moves g c =
+    let i = c.turns.invariant in moves_on c.args.from.now.socket c.args.to.now.socket (g.N.Sockets.net c.args.net.now) (g.N.Sockets.net c.turns.net) (g.N.Sockets.net c.go_round.new.net) i.moves (subst (λ z. Moves c.args.from.now.socket z.socket (g.N.Sockets.net c.turns.net) (g.N.Sockets.net c.go_round.new.net)) i.kept (subst (λ z. Moves z.socket c.turns.to.socket (g.N.Sockets.net c.turns.net) (g.N.Sockets.net c.go_round.new.net)) i.sender_kept c.in-Err.ensures.moves))
