@@ -1,0 +1,11 @@
+pub mod Handing
+pub mod Members
+pub mod Cloning
+pub mod GroupSessions
+pub mod WorkedGroupSessions
+pub mod Standing
+pub mod Turning
+pub mod GroupExchanges
+pub mod GroupSendings
+pub mod GroupHearings
+pub mod GroupLaws
