@@ -1,8 +1,10 @@
 -- From how a command ends to what is promised of it.
 use Rattle.std.proofs.Common.{◌≡◌, ◌==◌, ◌≤◌, ◌<◌, ◌≢◌, ◌↔◌, ℕ, zero, suc, true, false, List, [], ◌∷◌, Some, Result, Ok, Err, refl, ◌∙◌, ap, length, slice_get, arith, rules}
+use Rattle.taps_base.specs.Files.{FilesState}
 use Rattle.taps_base.specs.Sinks.{SinkState}
 use Rattle.taps_text.specs.ErrorLines.{usage_line}
-use Rattle.taps_command.specs.Asked.{Asked, NoCommand, Asks, asked, IsNoCommand, IsByCause, IsRun, LeavesLawful, most_reads}
+use Rattle.taps_command.specs.Asked.{Asked, NoCommand, Asks, Makes, asked, IsNoCommand, IsByCause, IsRun, LeavesLawful, most_reads}
+use Rattle.taps_command.specs.Makings.{Making, MakingEnds}
 use Rattle.taps_command.specs.Meanings.{Meaning, HasText}
 use Rattle.taps_command.specs.Runs.{World, Ends, Says, IsLawful, more, status_of}
 use Rattle.taps_command.specs.Telling.{Tells}
@@ -58,6 +60,7 @@ quiet_in m names old new (Err NoMemory) h other = h.0.faults
 pub few : (asks : Asked) (old new : World) (err err' : SinkState) (s : Status) → IsRun asks old new err err' s → new.files.reads ≤ most_reads asks old.files.reads
 few NoCommand old new err err' s run = let same = ap (λ (w : World). w.files.reads) run.cause.untouched in omega arith
 few (Asks m names) old new err err' s run = few_in m names old new run.cause.ended run.cause.fits run.cause.cause
+few (Makes m) old new err err' s run = let same = ap (λ (f : FilesState). f.reads) run.cause.files in omega arith
 
 -- a fault of the files has a status of its own
 pub no_fault : (asks : Asked) (old new : World) (err err' : SinkState) (s : Status) → IsRun asks old new err err' s → s ≢ status.FileFault
@@ -65,6 +68,7 @@ pub no_fault : (asks : Asked) (old new : World) (err err' : SinkState) (s : Stat
 no_fault NoCommand old new err err' s run other = ap (λ (w : World). w.files.faults) run.cause.untouched
 no_fault (Asks m names) old new err err' s run other =
     quiet_in m names old new run.cause.ended run.cause.cause (λ same. other (run.cause.status ∙ same))
+no_fault (Makes m) old new err err' s run other = ap (λ (f : FilesState). f.faults) run.cause.files
 
 never_usage : (m : Meaning) (names : List (List ℕ)) (old new : World) (e : Result Status Stop) → Ends m names old new e → status_of e ≡ status.Usage → ⊥
 never_usage m names old new (Ok s) h same = let there : HasText status.Usage = rw same at h.1 in there
@@ -73,15 +77,26 @@ never_usage m names old new (Err (FileFault place)) h same = cc
 never_usage m names old new (Err SinkFault) h same = cc
 never_usage m names old new (Err NoMemory) h same = cc
 
+never_usage_of : (m : Making) (out out' : SinkState) (e : Result Status Stop) → MakingEnds m out out' e → status_of e ≡ status.Usage → ⊥
+never_usage_of m out out' (Ok s) h same = let there : HasText status.Usage = rw same at h.1 in there
+never_usage_of m out out' (Err (Refused place why)) h same = cc
+never_usage_of m out out' (Err (FileFault place)) h same = cc
+never_usage_of m out out' (Err SinkFault) h same = cc
+never_usage_of m out out' (Err NoMemory) h same = cc
+
 -- the status is Usage if and only if there is no such command
 usage_only : (asks : Asked) (old new : World) (err err' : SinkState) (s : Status) → IsRun asks old new err err' s → s ≡ status.Usage → IsNoCommand asks
 usage_only NoCommand old new err err' s run same = tt
 usage_only (Asks m names) old new err err' s run same =
     absurd (never_usage m names old new run.cause.ended run.cause.cause (let back : status_of run.cause.ended ≡ status.Usage = rw run.cause.status at same in back))
+usage_only (Makes m) old new err err' s run same =
+    let made = run.cause.made in
+    absurd (never_usage_of m old.out new.out made.ended made.cause (let back : status_of made.ended ≡ status.Usage = rw made.status at same in back))
 
 usage_there : (asks : Asked) (old new : World) (err err' : SinkState) (s : Status) → IsRun asks old new err err' s → IsNoCommand asks → s ≡ status.Usage
 usage_there NoCommand old new err err' s run none = run.cause.status
 usage_there (Asks m names) old new err err' s run none = absurd none
+usage_there (Makes m) old new err err' s run none = absurd none
 
 pub usage : (asks : Asked) (old new : World) (err err' : SinkState) (s : Status) → IsRun asks old new err err' s → (s ≡ status.Usage) ↔ (IsNoCommand asks)
 usage asks old new err err' s run = (usage_only asks old new err err' s run, usage_there asks old new err err' s run)

@@ -4,9 +4,10 @@ use Rattle.taps_base.specs.Counts.{Rose}
 use Rattle.taps_base.specs.Sinks.{SinkState}
 use Rattle.taps_base.specs.declared.sink.SinkAnswer.TheVariants as answers
 use Rattle.taps_text.specs.declared.refusal.Refusal.{Refusal}
+use Rattle.taps_command.specs.Makings.{Making, MakingEnds, IsSettled}
 use Rattle.taps_command.specs.Meanings.{Meaning, judge}
 use Rattle.taps_command.specs.Runs.{World, Ends, Judged, Comes, Passes, IsRefused, Takes, status_of}
-use Rattle.taps_command.specs.Asked.{Asked, NoCommand, Asks, IsRun, IsDecided, IsComplete}
+use Rattle.taps_command.specs.Asked.{Asked, NoCommand, Asks, Makes, IsRun, IsDecided, IsComplete}
 use Rattle.taps_command.specs.declared.status.Status.{Status}
 use Rattle.taps_command.specs.declared.status.Status.TheVariants as status
 use Rattle.taps_command.specs.declared.stop.Stop.{Stop}
@@ -100,6 +101,32 @@ decided m names held old new e told h =
       passed = λ value passes quiet quiet_out. passed_in m names held old new e value told h passes quiet quiet_out;
     }
 
+refused_of : (m : Making) (out out' : SinkState) (e : Result Status Stop) (why : Refusal) → MakingEnds m out out' e → m.value ≡ Err why
+    → (status_of e ≡ status.Refused) ⊎ (status_of e ≡ status.NoMemory)
+refused_of m out out' (Ok s) why h none = absurd (never_both h.0.value why (sym h.0.made ∙ none))
+refused_of m out out' (Err (Refused place other)) why h none = inl refl
+refused_of m out out' (Err (FileFault place)) why h none = absurd h
+refused_of m out out' (Err SinkFault) why h none = absurd (never_both h.1.value why (sym h.1.made ∙ none))
+refused_of m out out' (Err NoMemory) why h none = inr refl
+
+made_of : (m : Making) (out out' : SinkState) (e : Result Status Stop) (value : m.Value) → MakingEnds m out out' e → m.value ≡ Ok value → ¬ Rose out.faults out'.faults
+    → ((text : List ℕ) × m.Prints value text (status_of e) × Takes answers.Taken out out' text) ⊎ (status_of e ≡ status.NoMemory)
+made_of m out out' (Ok s) value h there quiet =
+    let same : h.0.value ≡ value = both_pass h.0.value value m.value m.value h.0.made there refl in
+    let prints : m.Prints value h.0.text s = rw same at h.0.prints in
+    inl (h.0.text, prints, h.0.takes)
+made_of m out out' (Err (Refused place why)) value h there quiet = absurd (never_both value why (sym there ∙ h.0))
+made_of m out out' (Err (FileFault place)) value h there quiet = absurd h
+made_of m out out' (Err SinkFault) value h there quiet = absurd (quiet (write_fails out out' h.1.text h.1.takes))
+made_of m out out' (Err NoMemory) value h there quiet = inr refl
+
+settled : (m : Making) (out out' : SinkState) (e : Result Status Stop) → MakingEnds m out out' e → IsSettled m out out' (status_of e)
+settled m out out' e h = record {
+  refused = λ why none. refused_of m out out' e why h none;
+  made = λ value there quiet. made_of m out out' e value h there quiet;
+}
+
 pub complete_of : (asks : Asked) (old new : World) (err err' : SinkState) (s : Status) → IsRun asks old new err err' s → IsComplete asks old new s
 complete_of NoCommand old new err err' s run = tt
 complete_of (Asks m names) old new err err' s run = λ held told. rw run.cause.status (decided m names held old new run.cause.ended told run.cause.cause)
+complete_of (Makes m) old new err err' s run = rw run.cause.made.status (settled m old.out new.out run.cause.made.ended run.cause.made.cause)

@@ -1,5 +1,5 @@
 -- From what is printed to how a command ended, over the calls that were made on sockets.
-use Rattle.std.proofs.Common.{◌≡◌, ◌≤◌, ℕ, true, false, List, [], Ok, Err, Result, refl, sym, ◌∙◌, ap, subst, inl, inr, length, arith}
+use Rattle.std.proofs.Common.{◌≡◌, ℕ, true, false, List, [], Ok, Err, Result, refl, sym, ◌∙◌, ap, subst, inl, inr, length, arith}
 use Rattle.std.specs.Prelude.{◌==◌, IfOk}
 use Rattle.taps_base.specs.Files.{FilesState}
 use Rattle.taps_base.specs.Sinks.{SinkState}
@@ -9,11 +9,10 @@ use Rattle.taps_socket.specs.declared.item.Item.{Item}
 use Rattle.taps_socket.specs.Calls.{Call}
 use Rattle.taps_socket.specs.Net.{Net}
 use Rattle.taps_text.specs.ErrorLines.{usage_line}
-use Rattle.taps_text.specs.declared.refusal.Refusal.{Refusal}
 use Rattle.taps_command.specs.Asked.{asked, HasBeenRun}
 use Rattle.taps_command.specs.Meanings.{Meaning, IsPrinted, HasText}
 use Rattle.taps_command.specs.Nets.{SocketsState, HasRun, IsClosedOnce, uncalled}
-use Rattle.taps_command.specs.Runs.{Ends, Fails, Gathers, HaveCome, HasEnded, IsRefused, ReadsWell, ReadsFew, Says, Takes, more, status_of, world}
+use Rattle.taps_command.specs.Runs.{Ends, Gathers, HaveCome, HasEnded, ReadsWell, ReadsFew, Says, Takes, status_of, world}
 use Rattle.taps_command.specs.Telling.{Tells}
 use Rattle.taps_command.specs.declared.printed.Printed.{Printed}
 use Rattle.taps_command.specs.declared.status.Status.{Status}

@@ -6,6 +6,7 @@ use Rattle.taps_base.specs.Sinks.{SinkState}
 use Rattle.taps_base.specs.declared.sink.SinkAnswer.TheVariants as answers
 use Rattle.taps_text.specs.ErrorLines.{usage_line}
 use Rattle.taps_text.specs.declared.refusal.Refusal.{Refusal}
+use Rattle.taps_command.specs.Makings.{Making, IsMade, IsSettled}
 use Rattle.taps_command.specs.Meanings.{Meaning}
 use Rattle.taps_command.specs.Nets.{SocketsState, IsClosedOnce}
 use Rattle.taps_command.specs.Runs.{World, world, Ends, Says, Takes, Passes, IsRefused, IsLawful, more, status_of}
@@ -14,10 +15,11 @@ use Rattle.taps_command.specs.declared.status.Status.{Status}
 use Rattle.taps_command.specs.declared.status.Status.TheVariants as status
 use Rattle.taps_command.specs.declared.stop.Stop.{Stop}
 
--- no such command, or the command that means this, with these names of files
+-- no such command, the command that means this, with these names of files, or one that reads none and makes this
 pub data Asked : Type 1 where
   NoCommand : Asked
   Asks : Meaning → List (List ℕ) → Asked
+  Makes : Making → Asked
 
 -- the command with these names of files, if it is one
 abbrev pub asked_if : Bool → Meaning → List (List ℕ) → Asked
@@ -32,6 +34,7 @@ asked m names = asked_if (length names == length m.readings) m names
 abbrev pub IsNoCommand : Asked → Type 0
 IsNoCommand NoCommand = ⊤
 IsNoCommand (Asks m names) = ⊥
+IsNoCommand (Makes m) = ⊥
 
 -- how a command ended, the cause of that with what `out` received, what `err` received, and the status
 pub record HasCause (m : Meaning) (names : List (List ℕ))
@@ -48,20 +51,29 @@ pub record IsUsage (old new : World) (err err' : SinkState) (s : Status) : Type 
   pub untouched : new ≡ old
   pub tells : Tells err err' usage_line
 
+-- a command that reads no file: files and sockets were not touched
+pub record IsMaking (m : Making) (old new : World) (err err' : SinkState) (s : Status) : Type 0 where
+  pub files : new.files ≡ old.files
+  pub sockets : new.sockets ≡ old.sockets
+  pub made : IsMade m old.out new.out err err' s
+
 -- the cause of the status, and what both sinks received
 abbrev pub IsByCause : Asked → World → World → SinkState → SinkState → Status → Type 0
 IsByCause NoCommand old new err err' s = IsUsage old new err err' s
 IsByCause (Asks m names) old new err err' s = HasCause m names old new err err' s
+IsByCause (Makes m) old new err err' s = IsMaking m old new err err' s
 
 -- how many reads are made at most
 abbrev pub most_reads : Asked → ℕ → ℕ
 most_reads NoCommand reads = reads
 most_reads (Asks m names) reads = more (length m.readings) reads
+most_reads (Makes m) reads = reads
 
 -- what the sockets are at the end
 abbrev pub LeavesLawful : Asked → Contents → SocketsState → SocketsState → Type 0
 LeavesLawful NoCommand contents old new = new ≡ old
 LeavesLawful (Asks m names) contents old new = IsLawful m names contents old new
+LeavesLawful (Makes m) contents old new = new ≡ old
 
 -- where the contents are observable and no count of faults rose, they decide the status and the output, but for out of
 -- memory
@@ -80,6 +92,7 @@ abbrev pub IsComplete : Asked → World → World → Status → Type 0
 IsComplete NoCommand old new s = ⊤
 IsComplete (Asks m names) old new s =
     (held : List ℕ → Option (List ℕ)) → old.files.contents ≡ Some held → IsDecided m names held old new s
+IsComplete (Makes m) old new s = IsSettled m old.out new.out s
 
 -- what is kept of the command that was called
 pub record IsRun (asks : Asked) (old new : World) (err err' : SinkState) (s : Status) : Type 0 where

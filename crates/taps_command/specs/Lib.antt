@@ -8,4 +8,5 @@ pub mod Checks
 pub mod OneFile
 pub mod Telling
 pub mod Runs
+pub mod Makings
 pub mod Asked

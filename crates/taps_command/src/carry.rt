@@ -48,8 +48,8 @@ pub fn carry_out<C: Command<L>, L: Layers, F: Files, O: Sink, N: Sockets>(
     }
 }
 
-// Writes a text by one write, and nothing where it is empty.
-fn write<O: Sink>(out: &mut O, text: &[u8]) -> SinkAnswer
+/// Writes a text by one write, and nothing where it is empty.
+pub fn write<O: Sink>(out: &mut O, text: &[u8]) -> SinkAnswer
     ensures { Takes result (O.state out.old) (O.state out.new) text.now }
 {
     match text {

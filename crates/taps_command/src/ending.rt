@@ -67,7 +67,8 @@ fn settle<E: Sink>(
     status_after(&ended)
 }
 
-fn status_after(ended: &Result<Status, Stop>) -> Status
+/// The status of a way to end.
+pub fn status_after(ended: &Result<Status, Stop>) -> Status
     ensures { result ≡ status_of ended.now }
 {
     match ended {

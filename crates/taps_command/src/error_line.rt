@@ -1,5 +1,6 @@
 ghost use Rattle.std.specs.Prelude.{◌<◌, length};
 ghost use Rattle.taps_text.specs.ErrorLines as lines;
+ghost use Rattle.taps_command.specs.Makings.{SaysUnder};
 ghost use Rattle.taps_command.specs.Runs.{Says, names_of};
 ghost use Rattle.taps_command.specs.Telling.{Tells, MayTell};
 
@@ -41,6 +42,19 @@ pub fn say<E: Sink>(alloc: Global, err: &mut E, names: &[String], ended: &Result
                 tell_fault(alloc, err, name.as_str());
             }
         }
+        Err(Stop::SinkFault) => tell(err, output_fault_line()),
+        Err(Stop::NoMemory) => tell(err, no_memory_line()),
+    }
+}
+
+/// Says the same of a command that reads no file, under its name.
+pub fn say_under<E: Sink>(alloc: Global, err: &mut E, name: &str, ended: &Result<Status, Stop>)
+    ensures { SaysUnder name.now (E.state err.old) (E.state err.new) ended.now }
+{
+    match ended {
+        Ok(_) => {}
+        Err(Stop::Refused(_, why)) => tell_refusal(alloc, err, name, why),
+        Err(Stop::FileFault(_)) => tell_fault(alloc, err, name),
         Err(Stop::SinkFault) => tell(err, output_fault_line()),
         Err(Stop::NoMemory) => tell(err, no_memory_line()),
     }

@@ -15,6 +15,7 @@ mod ending;
 mod error_line;
 mod gather;
 mod layers;
+mod maker;
 mod nets;
 mod one_file;
 mod printed;
@@ -37,6 +38,7 @@ pub use two_files::TwoFiles;
 
 // A command, and what it hands back.
 pub use command::Command;
+pub use maker::{Maker, run_maker};
 pub use one_file::{OneFile, Only};
 pub use printed::Printed;
 pub use stop::Unready;

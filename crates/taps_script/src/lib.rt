@@ -16,6 +16,7 @@ mod script_sockets;
 mod sending;
 
 pub use line::{Fate, Line, PeerLine};
+pub use line_text::number;
 pub use script_error::ScriptError;
 pub use script_race::vouch_for_script;
 pub use script_sockets::ScriptSockets;

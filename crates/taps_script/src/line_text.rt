@@ -99,8 +99,9 @@ fn number_up_to(most: u64, text: &[u8]) -> Option<u64>
     }
 }
 
+/// The number of a text in decimal without leading zeros, if it is one of 32 bits.
 #[tactic(auto, unfolding(crate::specs::ScriptReading::number_of))]
-fn number(text: &[u8]) -> Option<u32>
+pub fn number(text: &[u8]) -> Option<u32>
     ensures { result ≡ reading.number_of text.now }
 {
     match number_up_to(u64::from(u32::MAX), text) {

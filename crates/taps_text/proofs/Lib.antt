@@ -1,2 +1,4 @@
 pub mod Appended
 pub mod PartsAre
+pub mod Digits
+pub mod Steps

@@ -7,6 +7,10 @@ use Rattle.std.specs.List.{flat_map}
 abbrev pub hex_digit : ℕ → ℕ
 hex_digit number = if nat_lt number 10 then number + 48 else number + 87
 
+-- the digit of what is left of a number behind its sixteens
+abbrev pub half_digit : ℕ → ℕ
+half_digit number = hex_digit (number % 16)
+
 -- the two digits of a byte, of which the first counts sixteens
 abbrev pub byte_digits : ℕ → List ℕ
 byte_digits byte = hex_digit (byte / 16) ∷ hex_digit (byte % 16) ∷ []

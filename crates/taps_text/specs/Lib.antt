@@ -9,3 +9,5 @@ pub mod BodyLines
 pub mod Parts
 pub mod MemberLines
 pub mod Log
+pub mod Generated
+pub mod Summary

@@ -1,8 +1,8 @@
 // Bytes in hexadecimal.
-ghost use Rattle.std.specs.Prelude.{◌≡◌, ◌*◌, ◌<◌, length};
+ghost use Rattle.std.specs.Prelude.{◌≡◌, ◌*◌, ◌<◌, length, map};
 ghost use Rattle.std.specs.List.{flat_map};
 ghost use Rattle.taps_text.specs.Appends.{Appends};
-ghost use Rattle.taps_text.specs.BodyLines.{hex_digit, byte_digits, hex_text};
+ghost use Rattle.taps_text.specs.BodyLines.{hex_digit, half_digit, byte_digits, hex_text};
 
 use crate::part::append;
 use taps_base::NoMemory;
@@ -26,18 +26,28 @@ fn append_digits(text: &mut Vec<u8>, bytes: &[u8]) -> Result<(), NoMemory>
     text.reserve(size)?;
     let start = text.len();
     text.resize(start + size, 0)?;
-    write_digits(bytes, &mut text[start..]);
+    write_halves(bytes, &mut text[start..]);
+    write_digits(&mut text[start..]);
     Ok(())
 }
 
-fn write_digits(bytes: &[u8], place: &mut [u8])
+// The two halves of each byte. Two loops take fewer instructions than one.
+fn write_halves(bytes: &[u8], place: &mut [u8])
     requires { length place.old ≡ 2 * length bytes.now }
-    ensures { place.new ≡ flat_map byte_digits bytes.now }
+    ensures { map half_digit place.new ≡ flat_map byte_digits bytes.now }
 {
     for i in 0..bytes.len() {
         let byte = bytes[i];
-        place[2 * i] = digit(byte / 16);
-        place[2 * i + 1] = digit(byte % 16);
+        place[2 * i] = byte / 16;
+        place[2 * i + 1] = byte;
+    }
+}
+
+fn write_digits(place: &mut [u8])
+    ensures { place.new ≡ map half_digit place.old }
+{
+    for i in 0..place.len() {
+        place[i] = digit(place[i] % 16);
     }
 }
 
@@ -45,9 +55,5 @@ fn digit(number: u8) -> u8
     requires { number < 16 }
     ensures { result ≡ hex_digit number }
 {
-    if number < 10 {
-        b'0' + number
-    } else {
-        b'a' + (number - 10)
-    }
+    number + if number < 10 { b'0' } else { b'a' - 10 }
 }

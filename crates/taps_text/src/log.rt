@@ -38,8 +38,8 @@ pub fn put_log(text: &mut Vec<u8>, log: &Log<'_>) -> Result<(), NoMemory>
     put_end(text, log)
 }
 
-// The line of the answer, if there is one.
-fn put_answer_if(text: &mut Vec<u8>, answer: Option<RaceAnswer>) -> Result<(), NoMemory>
+/// Appends the line of the answer, if there is one.
+pub fn put_answer_if(text: &mut Vec<u8>, answer: Option<RaceAnswer>) -> Result<(), NoMemory>
     ensures { Appends result text.old.items text.new.items (answer_lines answer) }
 {
     match answer {

@@ -111,7 +111,8 @@ fn put_one_part(
     number: u64,
     part: Part<'_>,
 ) -> Result<(), NoMemory>
-    ensures { Appends result text.old.items text.new.items (line_of_part member number part.entry.last part.entry.bytes.now) }
+    ensures { Appends result text.old.items text.new.items
+        (line_of_part member number part.entry.last part.entry.bytes.now) }
 {
     if part.last {
         put_received(text, member, number, part.bytes)
