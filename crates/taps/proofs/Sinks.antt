@@ -5,8 +5,9 @@ use Rattle.taps_base.specs.declared.sink.SinkAnswer.{SinkAnswer}
 use Rattle.taps_base.specs.declared.sink.SinkAnswer.TheVariants.{Taken, Failed}
 use Rattle.taps_framer.specs.Layers.{Layer}
 use Rattle.taps_text.specs.ErrorLines.{refused_line, fault_line, output_fault_line, no_memory_line, usage_line}
-use Rattle.taps_command.specs.Asked.{Asked, NoCommand, Asks, IsNoCommand, IsByCause}
+use Rattle.taps_command.specs.Asked.{Asked, NoCommand, Asks, Makes, IsNoCommand, IsByCause}
 use Rattle.taps_app.specs.Arguments.{asked_of}
+use Rattle.taps_command.specs.Makings.{Making, MakingEnds, SaysUnder}
 use Rattle.taps_command.specs.Meanings.{Meaning, HasText}
 use Rattle.taps_app.specs.Promises.{Promises}
 use Rattle.taps_command.specs.Runs.{World, Ends, Says, Takes, status_of}
@@ -90,6 +91,42 @@ none_of m names old new (Err (FileFault place)) h none = h.1.out
 none_of m names old new (Err SinkFault) h none = absurd none
 none_of m names old new (Err NoMemory) h none = h.1
 
+-- the same of a command that reads no file
+err_under : (name : List ℕ) (err err' : SinkState) (e : Result Status Stop) → SaysUnder name err err' e → IsWrittenAtMostOnce err err'
+err_under name err err' (Ok s) says = inl says
+err_under name err err' (Err (Refused place why)) says = perhaps_told err err' (refused_line name why) says
+err_under name err err' (Err (FileFault place)) says = perhaps_told err err' (fault_line name) says
+err_under name err err' (Err SinkFault) says = told err err' output_fault_line says
+err_under name err err' (Err NoMemory) says = told err err' no_memory_line says
+
+out_made : (m : Making) (out out' : SinkState) (e : Result Status Stop) → MakingEnds m out out' e → IsWrittenAtMostOnce out out'
+out_made m out out' (Ok s) h = once Taken out out' h.0.text h.0.takes
+out_made m out out' (Err (Refused place why)) h = inl h.1
+out_made m out out' (Err (FileFault place)) h = absurd h
+out_made m out out' (Err SinkFault) h = once Failed out out' h.1.text h.1.takes
+out_made m out out' (Err NoMemory) h = inl h
+
+text_made : (m : Making) (out out' : SinkState) (e : Result Status Stop) → MakingEnds m out out' e → HasText (status_of e) → (text : List ℕ) × Takes Taken out out' text
+text_made m out out' (Ok s) h there = (h.0.text, h.0.takes)
+text_made m out out' (Err (Refused place why)) h there = absurd there
+text_made m out out' (Err (FileFault place)) h there = absurd there
+text_made m out out' (Err SinkFault) h there = absurd there
+text_made m out out' (Err NoMemory) h there = absurd there
+
+fault_made : (m : Making) (out out' : SinkState) (e : Result Status Stop) → MakingEnds m out out' e → status_of e ≡ status.SinkFault → (text : List ℕ) × Receives Failed out out' text
+fault_made m out out' (Ok s) h same = let wrong : HasText status.SinkFault = rw same at h.1 in absurd wrong
+fault_made m out out' (Err (Refused place why)) h same = cc
+fault_made m out out' (Err (FileFault place)) h same = cc
+fault_made m out out' (Err SinkFault) h same = (h.1.text, failed out out' h.1.text h.1.takes)
+fault_made m out out' (Err NoMemory) h same = cc
+
+none_made : (m : Making) (out out' : SinkState) (e : Result Status Stop) → MakingEnds m out out' e → HasNoText (status_of e) → out' ≡ out
+none_made m out out' (Ok s) h none = absurd (never_both s h.1 none)
+none_made m out out' (Err (Refused place why)) h none = h.1
+none_made m out out' (Err (FileFault place)) h none = absurd h
+none_made m out out' (Err SinkFault) h none = absurd none
+none_made m out out' (Err NoMemory) h none = h
+
 out_untouched : (old new : World) → new ≡ old → new.out ≡ old.out
 out_untouched old new same = ap (λ (w : World). w.out) same
 
@@ -115,6 +152,17 @@ written_by (Asks m names) old new err err' s only there h =
       no_text = λ none. none_of m names old new h.ended h.cause (subst HasNoText h.status none);
       out_once = out_of m names old new h.ended h.cause;
       err_once = err_of m names old new err err' h.ended h.cause h.says;
+    }
+written_by (Makes m) old new err err' s only there h =
+    let made = h.made in
+    record {
+      only_usage = only;
+      usage = λ none. inl (there none);
+      text = λ some. text_made m old.out new.out made.ended made.cause (subst HasText made.status some);
+      sink_fault = λ same. fault_made m old.out new.out made.ended made.cause (sym made.status ∙ same);
+      no_text = λ none. none_made m old.out new.out made.ended made.cause (subst HasNoText made.status none);
+      out_once = out_made m old.out new.out made.ended made.cause;
+      err_once = err_under m.name err err' made.ended made.says;
     }
 
 -- what the top call promises, of both sinks

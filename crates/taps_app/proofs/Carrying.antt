@@ -1,5 +1,5 @@
 -- From the calls of a session on recorded sockets to what ended it.
-use Rattle.std.proofs.Common.{◌≡◌, ℕ, true, false, List, [], ◌∷◌, ◌++◌, Option, Result, Ok, Err, length, refl, sym, ◌∙◌, ap, subst, append-nil}
+use Rattle.std.proofs.Common.{◌≡◌, ℕ, true, false, List, [], ◌∷◌, ◌++◌, Option, Result, Ok, Err, length, sym, ◌∙◌, ap, subst, append-nil}
 use Rattle.std.specs.Prelude.{reverse}
 use Rattle.std.proofs.lemmas.List.{length-reverse}
 use Rattle.std.specs.Result.{IsErr}
@@ -75,7 +75,7 @@ carried_ok Becomes net a a' b c shelf ready rules targets x items count at o on 
     let all = all_items Becomes net a a' b ready rules targets x h in
     let told : at ≡ last_moment h.added.items = told_is rules targets (net b.net).trace x at (net b.net).told h.raced.lawful last h.raced.told_last ∙ ap last_moment all in
     unrecorded Becomes a c (net a.net) (net c.net) shelf ready (Ok (record { raced = count; answer = x; exchanged = o })) (shows a.net c.net)
-    (ended_ok (Records Becomes) a b c (seen net a) (seen net b) (seen net c) shelf ready (h.added.calls ++ []) h.added.items count x o (records_on Becomes on) (records_show Becomes net shows a c)
+    (ended_ok (Records Becomes) a b c (seen net a) (seen net b) (seen net c) shelf ready (h.added.calls ++ []) h.added.items count x o (records_on Becomes on) (records_show Becomes net shows a c) (records_show Becomes net shows b c)
     (counted ∙ count_is items (net b.net).trace h.added.items recorded all) (has_race Becomes net a a' b ready rules targets x on h)
     (goes_on_for (Records Becomes) b c (seen net b) (seen net c) shelf ready targets (targets_of ready) at (last_moment h.added.items) x (Ok o) h.same_targets told go))
 

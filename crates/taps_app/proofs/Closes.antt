@@ -27,7 +27,7 @@ given_started (item.Closed s ∷ r) h = given_started r h
 given_started (i ∷ r) h = absurd h
 
 -- a socket is among those of these that are not closed
-unclosed : (t : List Item) (xs : List ℕ) (s : ℕ) → has (filter (λ x. not (has (closed t) x)) xs) s ≡ (not (has (closed t) s) && has xs s)
+pub unclosed : (t : List Item) (xs : List ℕ) (s : ℕ) → has (filter (λ x. not (has (closed t) x)) xs) s ≡ (not (has (closed t) s) && has xs s)
 unclosed t xs s = any-filter_same (λ x. x == s) (λ x. not (has (closed t) x)) (not (has (closed t) s)) (λ k e. ap (λ v. not (has (closed t) v)) (eqb-true k s e)) xs
 
 -- one that was started is open or closed
@@ -43,7 +43,7 @@ winner_too true true h = refl
 winner_too true false h = refl
 winner_too false w h = rw (h refl) refl
 
-or_false : (w : Bool) → (w || false) ≡ true → w ≡ true
+pub or_false : (w : Bool) → (w || false) ≡ true → w ≡ true
 or_false true h = refl
 or_false false h = h
 
@@ -57,14 +57,14 @@ first_of_both true b h = refl
 first_of_both false b h = h
 
 -- a live socket is not closed
-not_closed : (t : List Item) (s : ℕ) → has (live_sockets t) s ≡ true → has (closed t) s ≡ false
+pub not_closed : (t : List Item) (s : ℕ) → has (live_sockets t) s ≡ true → has (closed t) s ≡ false
 not_closed t s h = not-true _ (first_of_both _ _ (rw (unclosed t (given t) s) at h))
 
 once : (targets : List Target) (t : List Item) (a : RaceAnswer) → HasWinner targets t a → IsOnce (closed t) → IsOnce (closed (closes_of a ++ t))
 once targets t (answer.Ready leaf x at) winner h = (not_closed t x winner.live, h)
 once targets t a winner h = h
 
-same_given : (t : List Item) (a : RaceAnswer) → given (closes_of a ++ t) ≡ given t
+pub same_given : (t : List Item) (a : RaceAnswer) → given (closes_of a ++ t) ≡ given t
 same_given t (answer.Ready leaf x at) = refl
 same_given t a = refl
 

@@ -10,13 +10,16 @@ use Rattle.taps_script.specs.ScriptNet.{Scripted, at_first}
 use Rattle.taps_script.specs.Scripts.{script_of}
 use Rattle.taps_script.specs.declared.line.Line.{Line}
 use Rattle.taps_preconnection.specs.declared.preconnection.Preconnection.{Preconnection}
-use Rattle.taps_socket.specs.Calls.{items_of}
+use Rattle.taps_property.specs.declared.role.Role.TheVariants.{Initiate}
 use Rattle.taps_text.specs.Log.{log_lines}
 use Rattle.taps_text.specs.declared.refusal.Refusal.{Refusal}
 use Rattle.taps_command.specs.Asked.{Asks, IsRun}
 use Rattle.taps_app.specs.Arguments.{asked_in, asked_of}
 use Rattle.taps_command.specs.Checks.{FileRules, most_bytes, most_framed, addresses_for, checked, only_file, first_file, second_file, beside}
-use Rattle.taps_app.specs.FilePlans.{IsPlanned, IsPlanOfFile}
+use Rattle.taps_endpoint.specs.DerivedAddresses.{derived_addresses}
+use Rattle.taps_app.specs.FilePlans.{IsPlanned, IsPlanOfFile, plan_to_run}
+use Rattle.taps_app.specs.Roles.{IsRunOn}
+use Rattle.taps_app.proofs.FileMeanings.{run_meaning, run_plan}
 use Rattle.taps_app.specs.Frame.{frame, frame_rules, IsFramed}
 use Rattle.taps_app.specs.Framings.{FramesFile, UnframesFile, IsFramingOf}
 use Rattle.taps_command.specs.Meanings.{Meaning, Reading, judge, HasText}
@@ -27,9 +30,8 @@ use Rattle.taps_command.specs.OneFile.{HasRead}
 use Rattle.taps_app.specs.Run.{run, run_rules}
 use Rattle.taps_command.specs.Runs.{World, Ends, Delivers, Judged, Passes, Takes, names_of, status_of}
 use Rattle.taps_app.specs.FileRuns.{RunsFile, IsSessionOfFile}
-use Rattle.taps_app.specs.FileSessions.{text_of}
-use Rattle.taps_app.specs.SessionLogs.{log_text, members_told, outcome_told, IsLoggedOn}
-use Rattle.taps_app.specs.Sessions.{Course, closing}
+use Rattle.taps_app.specs.FileSessions.{initiated, plan_in, plan_for, text_of}
+use Rattle.taps_app.specs.SessionLogs.{Held, held_of, log_of}
 use Rattle.taps_app.specs.Sim.{sim, sim_rules, scripted, or_bad_line, PrintsSimulation}
 use Rattle.taps_app.specs.Simulations.{IsSimulation, IsSimulationOf}
 use Rattle.taps_app.specs.Unframe.{unframe, any_bytes, PrintsMessages}
@@ -143,13 +145,12 @@ both_there B rules shelf limit check P M contents file second value (between, na
     }
 
 -- a log begins with the plan's text
-log_begins : (shelf : List Layer) (ready : Ready) (c : Course) (text : List ℕ) → text ≡ log_text shelf ready c → (rest : List ℕ) × (text ≡ text_of ready ++ rest)
-unfolding log_text
-log_begins shelf ready c text same =
-    (log_lines (reverse c.race) (Some c.answer) (reverse (items_of (closing c.answer ++ c.exchange))) ready.pre.exchange.part (members_told shelf ready c) (outcome_told c.outcome), same)
+log_begins : (plan : List ℕ) (part : Option ℕ) (s : Held) → (rest : List ℕ) × (log_of plan part s ≡ plan ++ rest)
+unfolding log_of
+log_begins plan part s = (log_lines (reverse s.before) s.answer (reverse s.after) part s.members s.outcome, refl)
 
 planned : (rules : FileRules) (shelf : List Layer) (contents : Contents) (file bytes : List ℕ) (ready : Ready) (text rest : List ℕ) (out out' : SinkState) → ((pre : Preconnection) → rules.addresses pre ≡ addresses_for pre)
-    → IsContent contents file bytes → checked rules shelf bytes ≡ Ok ready → text ≡ text_of ready ++ rest → Takes answers.Taken out out' text → IsPlanned contents file out out'
+    → IsContent contents file bytes → checked rules shelf bytes ≡ Ok ready → text ≡ text_of ready.pre (initiated ready) ++ rest → Takes answers.Taken out out' text → IsPlanned contents file out out' (plan_in Initiate)
 planned rules shelf contents file bytes ready text rest out out' derives content passes begins takes =
     let (read, derived) = file_meaning rules shelf bytes ready derives passes in
     record {
@@ -160,30 +161,42 @@ planned rules shelf contents file bytes ready text rest out out' derives content
       addresses = ready.addresses;
       derived = derived;
       rest = rest;
-      places = ready.places;
       takes = subst (λ (t : List ℕ). Takes answers.Taken out out' t) begins takes;
     }
 
-plan_planned : (shelf : List Layer) (file : List ℕ) (old new : World) (s : Status) → Delivers (plan shelf) (file ∷ []) answers.Taken old new s → IsPlanned old.files.contents file old.out new.out
+plan_planned : (shelf : List Layer) (file : List ℕ) (old new : World) (s : Status) → Delivers (plan shelf) (file ∷ []) answers.Taken old new s → IsPlanned old.files.contents file old.out new.out (plan_in Initiate)
 plan_planned shelf file old new s h =
     let f = only_there plan_rules shelf (plan shelf).Prints (plan shelf).MayLeave old.files.contents file h.value h.comes in
     let prints : PrintsPlan f.ready h.text s = subst (HasRead (λ ready. PrintsPlan ready h.text s)) f.there h.prints in
-    planned plan_rules shelf old.files.contents file f.bytes f.ready h.text [] old.out new.out (λ pre. refl) f.content f.passes (prints.0 ∙ sym (append-nil (text_of f.ready))) h.takes
+    planned plan_rules shelf old.files.contents file f.bytes f.ready h.text [] old.out new.out (λ pre. refl) f.content f.passes (prints.0 ∙ sym (append-nil (text_of f.ready.pre (initiated f.ready)))) h.takes
 
 session_run : (shelf : List Layer) (file : List ℕ) (old new : World) (s : Status) → Delivers (run shelf) (file ∷ []) answers.Taken old new s → RunsFile shelf old.files.contents file old.out new.out old.sockets new.sockets s
 session_run shelf file old new s h =
     let f = only_there run_rules shelf (run shelf).Prints (run shelf).MayLeave old.files.contents file h.value h.comes in
-    let prints : IsLoggedOn shelf f.ready old.sockets new.sockets h.text s = subst (HasRead (λ ready. IsLoggedOn shelf ready old.sockets new.sockets h.text s)) f.there h.prints in
+    let prints : IsRunOn shelf f.ready old.sockets new.sockets h.text s = subst (HasRead (λ ready. IsRunOn shelf ready old.sockets new.sockets h.text s)) f.there h.prints in
     record { bytes = f.bytes; content = f.content; fits = f.fits; ready = f.ready; passes = f.passes; text = h.text; logged = prints; takes = h.takes }
 
-run_planned : (shelf : List Layer) (file : List ℕ) (old new : World) (s : Status) → Delivers (run shelf) (file ∷ []) answers.Taken old new s → IsPlanned old.files.contents file old.out new.out
+run_planned : (shelf : List Layer) (file : List ℕ) (old new : World) (s : Status) → Delivers (run shelf) (file ∷ []) answers.Taken old new s → IsPlanned old.files.contents file old.out new.out plan_to_run
 run_planned shelf file old new s h =
     let f = session_run shelf file old new s h in
-    let logged = f.logged in
-    let (rest, begins) = log_begins shelf f.ready logged.course f.text logged.log in
-    planned run_rules shelf old.files.contents file f.bytes f.ready f.text rest old.out new.out (λ pre. refl) f.content f.passes begins f.takes
+    let pre = f.ready.pre in
+    let r = pre.exchange.role in
+    let (read, derived) = run_meaning shelf f.bytes f.ready f.passes in
+    let (rest, begins) = log_begins (text_of pre (plan_for r pre f.ready.addresses)) pre.exchange.part f.logged.held in
+    let all : f.text ≡ text_of pre (plan_for r pre (derived_addresses pre.hosts pre.remotes.items)) ++ rest =
+    f.logged.log ∙ begins ∙ ap (λ v. text_of pre v ++ rest) (run_plan r pre f.ready.addresses derived) in
+    record {
+      bytes = f.bytes;
+      content = f.content;
+      meaning = pre;
+      read = read;
+      addresses = derived_addresses pre.hosts pre.remotes.items;
+      derived = refl;
+      rest = rest;
+      takes = subst (λ (t : List ℕ). Takes answers.Taken old.out new.out t) all f.takes;
+    }
 
-script_there : (read : Result (List Line) ℕ) (sockets : Scripted) → or_bad_line read ≡ Ok sockets → read ≡ Ok sockets.lines
+pub script_there : (read : Result (List Line) ℕ) (sockets : Scripted) → or_bad_line read ≡ Ok sockets → read ≡ Ok sockets.lines
 script_there (Ok lines) sockets h = let same : at_first lines ≡ sockets = ok_same (at_first lines) sockets h in ap Ok (ap (λ (x : Scripted). x.lines) same)
 script_there (Err number) sockets h = cc
 
@@ -209,12 +222,12 @@ simulation shelf file script old new s h =
       takes = h.takes;
     }
 
-sim_planned : (shelf : List Layer) (file script : List ℕ) (old new : World) (s : Status) → Delivers (sim shelf) (file ∷ script ∷ []) answers.Taken old new s → IsPlanned old.files.contents file old.out new.out
+sim_planned : (shelf : List Layer) (file script : List ℕ) (old new : World) (s : Status) → Delivers (sim shelf) (file ∷ script ∷ []) answers.Taken old new s → IsPlanned old.files.contents file old.out new.out (plan_in Initiate)
 sim_planned shelf file script old new s h =
     let f = simulation shelf file script old new s h in
     let simulated = f.simulated in
-    let (rest, begins) = log_begins shelf f.ready simulated.course f.text simulated.log in
-    planned sim_rules shelf old.files.contents file f.bytes f.ready f.text rest old.out new.out (λ pre. refl) f.content f.passes begins f.takes
+    let (rest, begins) = log_begins (text_of f.ready.pre (initiated f.ready)) f.ready.pre.exchange.part (held_of shelf f.ready simulated.course) in
+    planned sim_rules shelf old.files.contents file f.bytes f.ready f.text rest old.out new.out (λ pre. refl) f.content f.passes (simulated.log ∙ begins) f.takes
 
 frames : (shelf : List Layer) (file : List ℕ) (old new : World) (s : Status) → Delivers (frame shelf) (file ∷ []) answers.Taken old new s → FramesFile shelf old.files.contents file old.out new.out s
 frames shelf file old new s h =

@@ -1,5 +1,5 @@
 -- From a race, and the exchange behind it, to a session.
-use Rattle.std.proofs.Common.{◌≡◌, ◌≤◌, ◌+◌, ◌*◌, ℕ, true, false, List, [], ◌∷◌, ◌++◌, Option, Some, None, Result, Ok, Err, length, refl, sym, ◌∙◌, ap, subst, inl, inr, append-nil, map}
+use Rattle.std.proofs.Common.{◌≡◌, ℕ, true, List, [], ◌∷◌, ◌++◌, Option, Some, None, Ok, Err, length, refl, sym, ◌∙◌, ap, subst, inr, map}
 use Rattle.taps_base.specs.Counts.{Rose}
 use Rattle.taps_base.specs.declared.no_memory.NoMemory.{NoMemory}
 use Rattle.taps_framer.specs.Layers.{Layer}
@@ -8,7 +8,7 @@ use Rattle.taps_socket.specs.declared.item.Item.{Item}
 use Rattle.taps_socket.specs.declared.item.Item.TheVariants as item
 use Rattle.taps_socket.specs.declared.race_answer.RaceAnswer.{RaceAnswer}
 use Rattle.taps_socket.specs.declared.race_answer.RaceAnswer.TheVariants as answers
-use Rattle.taps_socket.specs.Calls.{Call, closes, items_of, AddEach, HasAdded}
+use Rattle.taps_socket.specs.Calls.{Call, closes, items_of, AddEach}
 use Rattle.taps_socket.specs.LawfulRace.{IsLawfulRace}
 use Rattle.taps_socket.specs.LiveSockets.{given}
 use Rattle.taps_socket.specs.Net.{Net}
@@ -16,21 +16,20 @@ use Rattle.taps_socket.specs.Once.{IsOnce}
 use Rattle.taps_socket.specs.RaceSockets.{has, closed}
 use Rattle.taps_socket.specs.RaceTrace.{last_moment}
 use Rattle.taps_socket.specs.Shows.{Shows}
+use Rattle.taps_socket.specs.Sides.{carries_stream}
+use Rattle.taps_exchange.specs.Expiries.{TimesRise}
 use Rattle.taps_exchange.specs.Exchanged.{IsExchanged, IsCutShort, HasClosed}
-use Rattle.taps_exchange.specs.Members.{Member, calls_on, outbox_after, hearing_after}
-use Rattle.taps_exchange.specs.Decodings.{messages_of}
+use Rattle.taps_exchange.specs.Members.{Member, calls_on}
 use Rattle.taps_exchange.specs.Outcomes.{AreExchangeItems, IsJudged, count_by}
 use Rattle.taps_exchange.specs.declared.exchanged.Exchanged.{Exchanged}
-use Rattle.taps_exchange.specs.declared.outcome.Outcome.{Outcome}
 use Rattle.taps_exchange.specs.declared.outcome.Outcome.TheVariants as outcome
-use Rattle.taps_text.specs.MemberLines.{MemberLog}
-use Rattle.taps_command.specs.Nets.{HasRun, IsClosedOnce, SocketsState}
+use Rattle.taps_command.specs.Nets.{HasRun, IsClosedOnce}
 use Rattle.taps_command.specs.Ready.{Ready}
 use Rattle.taps_app.specs.FileSessions.{rules_of, targets_of}
-use Rattle.taps_app.specs.Raced.{closes_of, IsRaced, GoesOn, IsEnded, EndsSession}
-use Rattle.taps_app.specs.SessionLogs.{members_told, told_of, AreJudged, IsSeen}
-use Rattle.taps_app.specs.Sessions.{Course, calls_of, closing, members_after, member_at, winner_of, IsBegunSession, IsSessionOf}
-use Rattle.taps_app.specs.declared.holding.Ended.{Ended}
+use Rattle.taps_app.specs.Raced.{closes_of, HasUnusedWinner, GoesOn, EndsSession}
+use Rattle.taps_app.specs.SessionLogs.{members_told, IsSeen}
+use Rattle.taps_app.specs.Sessions.{Course, winner_of, IsBegunSession, IsSessionOf}
+use Rattle.taps_app.proofs.Observing.{observed, but_the_close}
 
 -- items of an exchange give and close no socket
 same_given : (s : ℕ) (items t : List Item) → AreExchangeItems s items → given (items ++ t) ≡ given t
@@ -62,6 +61,7 @@ pub record HasRace {S : Type 0} (Becomes : S → List Call → S → Type 0) (a 
   pub items : n'.trace ≡ race ++ n.trace
   pub lawful : IsLawfulRace (rules_of ready) 0 (targets_of ready) race answer
   pub timed : n'.timed ≡ n.timed
+  pub unused : HasUnusedWinner n' answer
   pub fault : answer ≡ answers.SocketFault → Rose n.faults n'.faults
   pub closed_once : IsClosedOnce (closes_of answer ++ n'.trace)
 
@@ -78,10 +78,10 @@ closed_all socket calls n1 n2 once h = subst IsClosedOnce (sym h.trace) (closed_
 
 -- an exchange was carried out
 exchanged : {S : Type 0} (Becomes : S → List Call → S → Type 0) (a b c : S) (n n1 n2 : Net) (shelf : List Layer) (ready : Ready) (raced : List Call) (race : List Item) (leaf socket won count : ℕ) (x : Exchanged)
-    → AppendLaw Becomes → ((calls : List Call) → Becomes a calls c → Shows n calls n2) → count ≡ length race → HasRace Becomes a b n n1 ready raced race (answers.Ready leaf socket won)
+    → AppendLaw Becomes → ((calls : List Call) → Becomes a calls c → Shows n calls n2) → ((calls : List Call) → Becomes b calls c → Shows n1 calls n2) → count ≡ length race → HasRace Becomes a b n n1 ready raced race (answers.Ready leaf socket won)
     → IsExchanged Becomes b c n1 n2 (winner_of shelf ready race leaf socket) x.outcome x.sent x.heard.items
     → HasRun Becomes a c n n2 (EndsSession shelf ready (Ok (record { raced = count; answer = answers.Ready leaf socket won; exchanged = Some x })))
-exchanged Becomes a b c n n1 n2 shelf ready raced race leaf socket won count x on shows counted r e =
+exchanged Becomes a b c n n1 n2 shelf ready raced race leaf socket won count x on shows shows_then counted r e =
     let m : Member = winner_of shelf ready race leaf socket in
     let course : Course = record { raced = raced; race = race; answer = answers.Ready leaf socket won; exchange = e.calls; outcome = x.outcome } in
     let exchange = e.exchange ready.pre.connection.conn_priority (map (λ (a : Accepted). a.number) m.messages) in
@@ -94,6 +94,8 @@ exchanged Becomes a b c n n1 n2 shelf ready raced race leaf socket won count x o
       timed = e.timed ∙ ap (count_by x.outcome) r.timed;
       fault = λ h. cc;
       judged = (judged, tt);
+      times_rise = (subst TimesRise (sym e.own) e.times_rise, tt);
+      observed = (but_the_close (carries_stream n2.trace socket) (n2.traffic socket) socket e.calls (observed n1 n2 (closes socket ∷ e.calls) socket (shows_then (closes socket ∷ e.calls) e.becomes) r.unused), tt);
     } in
     let told : members_told shelf ready course ≡ record { sent = x.sent; heard = x.heard.items } ∷ [] = rw (e.own, e.sent_is, e.heard_is) refl in
     record {
@@ -138,14 +140,14 @@ cut_short Becomes a b c n n1 n2 shelf ready raced race leaf socket won none on s
 
 -- a session went on behind its race and came to an end
 pub ended_ok : {S : Type 0} (Becomes : S → List Call → S → Type 0) (a b c : S) (n n1 n2 : Net) (shelf : List Layer) (ready : Ready) (raced : List Call) (race : List Item) (count : ℕ) (answer : RaceAnswer) (o : Option Exchanged)
-    → AppendLaw Becomes → ((calls : List Call) → Becomes a calls c → Shows n calls n2) → count ≡ length race → HasRace Becomes a b n n1 ready raced race answer
+    → AppendLaw Becomes → ((calls : List Call) → Becomes a calls c → Shows n calls n2) → ((calls : List Call) → Becomes b calls c → Shows n1 calls n2) → count ≡ length race → HasRace Becomes a b n n1 ready raced race answer
     → GoesOn Becomes b c n1 n2 shelf ready (targets_of ready) (last_moment race) answer (Ok o)
     → HasRun Becomes a c n n2 (EndsSession shelf ready (Ok (record { raced = count; answer = answer; exchanged = o })))
-ended_ok Becomes a b c n n1 n2 shelf ready raced race count (answers.Ready leaf socket won) (Some x) on shows counted r go =
-    exchanged Becomes a b c n n1 n2 shelf ready raced race leaf socket won count x on shows counted r go
-ended_ok Becomes a b c n n1 n2 shelf ready raced race count (answers.Ready leaf socket won) None on shows counted r go = absurd go
-ended_ok Becomes a b c n n1 n2 shelf ready raced race count answer (Some x) on shows counted r go = absurd go
-ended_ok Becomes a b c n n1 n2 shelf ready raced race count answer None on shows counted r go =
+ended_ok Becomes a b c n n1 n2 shelf ready raced race count (answers.Ready leaf socket won) (Some x) on shows shows_then counted r go =
+    exchanged Becomes a b c n n1 n2 shelf ready raced race leaf socket won count x on shows shows_then counted r go
+ended_ok Becomes a b c n n1 n2 shelf ready raced race count (answers.Ready leaf socket won) None on shows shows_then counted r go = absurd go
+ended_ok Becomes a b c n n1 n2 shelf ready raced race count answer (Some x) on shows shows_then counted r go = absurd go
+ended_ok Becomes a b c n n1 n2 shelf ready raced race count answer None on shows shows_then counted r go =
     let becomes : Becomes a raced c = on a b c raced [] r.becomes go.0 in
     let session : IsSessionOf shelf ready (record { raced = raced; race = race; answer = answer; exchange = []; outcome = outcome.Done }) = record { each = r.each; lawful = r.lawful; exchanged = (refl, refl) } in
     let seen : IsSeen shelf ready (record { raced = raced; race = race; answer = answer; exchange = []; outcome = outcome.Done }) n n2 = record {
@@ -153,6 +155,8 @@ ended_ok Becomes a b c n n1 n2 shelf ready raced race count answer None on shows
       timed = ap (λ (v : Net). v.timed) go.1 ∙ r.timed;
       fault = λ h. subst (λ (v : Net). Rose n.faults v.faults) (sym go.1) (r.fault h);
       judged = tt;
+      times_rise = tt;
+      observed = tt;
     } in
     let begun : IsBegunSession shelf ready raced = record { raced = raced; race = race; answer = answer; exchange = []; split = refl; each = r.each; lawful = r.lawful; begun = refl } in
     record {

@@ -15,6 +15,7 @@ use Rattle.taps_command.proofs.Running.{ran_on}
 use Rattle.taps_app.specs.Arguments.{asked_of}
 use Rattle.taps_app.specs.Promises.{KeepsPromises}
 use Rattle.taps_app.proofs.Corollaries as corollaries
+use Rattle.taps_app.proofs.Generating.{generated}
 
 kept : (shelf : List Layer) (words : List (String Global)) (files files' : FilesState) (out out' err err' : SinkState) (s : Status) (before after : SocketsState)
     → HasBeenRun (asked_of shelf words) files files' out out' err err' s before after → KeepsPromises shelf words files files' out out' err err' s before after
@@ -33,6 +34,7 @@ kept shelf words files files' out out' err err' s before after been =
       exchanged = corollaries.exchanged shelf words old new err err' s run;
       simulated = corollaries.simulated shelf words old new err err' s run;
       framed = corollaries.framed shelf words old new err err' s run;
+      generated = generated shelf words old new err err' s run;
       complete = complete_of (asked_of shelf words) old new err err' s run;
     }
 

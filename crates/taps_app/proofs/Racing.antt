@@ -1,27 +1,25 @@
 -- What a race that was carried out from the first item on leaves to a session.
-use Rattle.std.proofs.Common.{◌≡◌, ◌+◌, ◌*◌, ◌≤◌, ◌<◌, ◌&&◌, ℕ, Bool, true, false, List, [], ◌∷◌, ◌++◌, Option, Some, None, length, slice_get, refl, ap, sym, ◌∙◌, subst, arith, not, append-nil, map}
+use Rattle.std.proofs.Common.{◌≡◌, ◌+◌, ◌*◌, ◌≤◌, ◌&&◌, ℕ, Bool, true, false, List, [], ◌∷◌, ◌++◌, Option, Some, None, length, slice_get, refl, ap, sym, ◌∙◌, subst, arith, not, append-nil, map, eq-eqb}
 use Rattle.taps_base.specs.Counts.{Rose}
-use Rattle.taps_framer.specs.Layers.{Layer}
 use Rattle.taps_stack.specs.declared.target.Target.{Target}
 use Rattle.taps_stack.specs.StackTable.{is_stream}
 use Rattle.taps_socket.specs.declared.item.Item.{Item}
 use Rattle.taps_socket.specs.declared.race_answer.RaceAnswer.{RaceAnswer}
 use Rattle.taps_socket.specs.declared.race_answer.RaceAnswer.TheVariants as answer
 use Rattle.taps_socket.specs.Calls.{Call, items_by, HasAdded}
-use Rattle.taps_socket.specs.RaceSockets.{has, closed}
+use Rattle.taps_socket.specs.RaceSockets.{has, closed, started, open_sockets}
 use Rattle.taps_socket.specs.RaceTrace.{last_moment}
-use Rattle.taps_socket.specs.LiveSockets.{live_sockets}
-use Rattle.taps_socket.specs.Sides.{carries_stream, is_connected, may_send, may_receive, shut, ended, target_of}
+use Rattle.taps_socket.specs.Sides.{carries_stream, is_connected, shut, ended, target_of}
 use Rattle.taps_socket.specs.Once.{IsOnce}
 use Rattle.taps_socket.specs.Rules.{Rules}
-use Rattle.taps_socket.specs.LawfulRace.{IsLawfulRace}
-use Rattle.taps_socket.specs.Net.{Net, PreservesTraffic, with_spare}
+use Rattle.taps_socket.specs.LawfulRace.{IsLawfulRace, WinnerAlone}
+use Rattle.taps_socket.specs.Net.{Net, IsUnused, with_spare}
+use Rattle.taps_socket.proofs.Lists.{kept as kept_of}
 use Rattle.taps_racer.specs.Kept.{Kept}
 use Rattle.taps_racer.specs.CarriedOut.{HasAnswer, IsWinner, NamesWinner, IsCarriedOut, HasCarriedOut}
-use Rattle.taps_connection.specs.Conditions.{IsHeld}
 use Rattle.taps_command.specs.Ready.{Ready}
 use Rattle.taps_app.specs.FileSessions.{rules_of, targets_of}
-use Rattle.taps_app.specs.Raced.{closes_of, HasWinner, IsRaced, IsWon}
+use Rattle.taps_app.specs.Raced.{HasWinner, HasUnusedWinner, IsRaced, IsWon}
 use Rattle.taps_app.specs.Sessions.{stack_of}
 use Rattle.taps_app.proofs.Closes.{closed_once}
 use Rattle.taps_app.proofs.Ending.{HasRace, AppendLaw}
@@ -55,9 +53,19 @@ won targets race trace leaf socket w =
       held = record { connected = connected; carries = stream_of trace socket (slice_get targets leaf) w.target; shut_by = unshut; ended_by = unended };
     }
 
-winner_of : (targets : List Target) (race trace : List Item) (a : RaceAnswer) → NamesWinner targets race trace a → HasWinner targets trace a
+pub winner_of : (targets : List Target) (race trace : List Item) (a : RaceAnswer) → NamesWinner targets race trace a → HasWinner targets trace a
 winner_of targets race trace (answer.Ready leaf socket at) h = won targets race trace leaf socket h
 winner_of targets race trace a h = tt
+
+-- its socket was started in the race, whose sockets have no traffic
+first_same : (s : ℕ) → has (s ∷ []) s ≡ true
+first_same s = rw (eq-eqb s s refl) refl
+
+pub unused_winner : (after : Net) (t : List Item) (a : RaceAnswer) → WinnerAlone a (open_sockets t) → ((s : ℕ) → has (started t) s ≡ true → IsUnused (after.traffic s)) → HasUnusedWinner after a
+unused_winner after t (answer.Ready leaf socket at) alone unused =
+    let is_open : has (open_sockets t) socket ≡ true = subst (λ v. has v socket ≡ true) (sym alone) (first_same socket) in
+    unused socket (kept_of (λ s. not (has (closed t) s)) (started t) socket is_open).1
+unused_winner after t a alone unused = tt
 
 -- the first item of the race is the first of all
 whole : (rules : Rules) (targets : List Target) (before after : Net) (t : List Item) (a : RaceAnswer) → before.trace ≡ [] → 4 * length targets + 4 ≤ before.spare → after.trace ≡ t → IsCarriedOut rules 0 targets before after t a → IsRaced rules targets before after a
@@ -70,6 +78,7 @@ whole rules targets before after t a fresh room all c =
     record {
       lawful = lawful;
       winner = winner;
+      unused = unused_winner after t a c.lawful.over.winner_alone c.unused;
       told_last = subst (λ v. after.told ≡ last_moment v) (sym all) c.told_last;
       closed_once = closed_once targets after.trace a lawful.race.race_trace lawful.over.winner_alone winner (c.closed_once (subst (λ v. IsOnce (closed v)) (sym fresh) tt));
       room = omega arith;
@@ -77,7 +86,7 @@ whole rules targets before after t a fresh room all c =
       fault = c.fault;
     }
 
-same_answer : (kept : Kept) (a b : RaceAnswer) → HasAnswer kept a → HasAnswer kept b → a ≡ b
+pub same_answer : (kept : Kept) (a b : RaceAnswer) → HasAnswer kept a → HasAnswer kept b → a ≡ b
 same_answer kept a b ha hb = let e : Some a ≡ Some b = sym ha ∙ hb in cc
 
 pub raced : (rules : Rules) (targets : List Target) (before after : Net) (kept : Kept) (a : RaceAnswer) → before.trace ≡ [] → 4 * length targets + 4 ≤ before.spare → HasCarriedOut rules 0 targets before after kept → HasAnswer kept a → IsRaced rules targets before after a
@@ -102,6 +111,7 @@ race_of Becomes a a' b n n' n1 ready rules targets x on fresh roomy none same_ru
       items = items;
       lawful = subst (λ v. IsLawfulRace (rules_of ready) 0 (targets_of ready) v x) only two;
       timed = ap (λ (v : Net). v.timed) r.preserved ∙ ap (λ (v : Net). v.timed) roomy;
+      unused = r.unused;
       fault = λ h. subst (λ v. Rose v n1.faults) (ap (λ (v : Net). v.faults) roomy) (r.fault h);
       closed_once = r.closed_once;
     }

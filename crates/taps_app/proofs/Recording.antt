@@ -1,5 +1,5 @@
 -- From sockets whose items are recorded to the sockets themselves, and to what is kept of a session.
-use Rattle.std.proofs.Common.{◌≡◌, ◌≤◌, ℕ, List, [], ◌++◌, Result, Ok, Err, length, refl, sym, ◌∙◌, ap, subst, inl, inr, append-nil, append_assoc, length-append, arith}
+use Rattle.std.proofs.Common.{◌≡◌, ◌≤◌, ℕ, List, [], ◌++◌, Some, Result, Ok, Err, length, refl, sym, ◌∙◌, ap, subst, inl, inr, append-nil, append_assoc, length-append, arith}
 use Rattle.std.specs.Prelude.{reverse}
 use Rattle.std.proofs.lemmas.List.{length-reverse}
 use Rattle.taps_base.specs.declared.no_memory.NoMemory.{NoMemory}
@@ -14,8 +14,8 @@ use Rattle.taps_command.specs.Nets.{HasRun, SocketsState, uncalled}
 use Rattle.taps_command.specs.Ready.{Ready}
 use Rattle.taps_command.proofs.Running.{ran_on, ran_by}
 use Rattle.taps_app.specs.Raced.{IsEnded, EndsSession}
-use Rattle.taps_app.specs.Session.{Held, HoldsSession, IsHeld, held_of, members_by, outcome_by, parted}
-use Rattle.taps_app.specs.SessionLogs.{members_told, IsSeen, LeavesSession}
+use Rattle.taps_app.specs.Session.{members_by, outcome_by, parted}
+use Rattle.taps_app.specs.SessionLogs.{Held, HoldsSession, held_of, outcome_told, IsSeen, LeavesSession}
 use Rattle.taps_app.specs.Sessions.{Course, closing}
 use Rattle.taps_app.specs.declared.holding.Ended.{Ended}
 use Rattle.taps_app.proofs.Ending.{AppendLaw}
@@ -35,7 +35,7 @@ records_show Becomes net shows a b calls h = shows_spare (net a.net) (net b.net)
 
 -- spare does not matter to what is seen of a session
 same_seen : (shelf : List Layer) (ready : Ready) (c : Course) (n n' : Net) (s s' : ℕ) → IsSeen shelf ready c (with_spare n s) (with_spare n' s') → IsSeen shelf ready c n n'
-same_seen shelf ready c n n' s s' h = record { items = h.items; timed = h.timed; fault = h.fault; judged = h.judged }
+same_seen shelf ready c n n' s s' h = record { items = h.items; timed = h.timed; fault = h.fault; judged = h.judged; times_rise = h.times_rise; observed = h.observed }
 
 same_left : (shelf : List Layer) (ready : Ready) (n n' : Net) (s s' : ℕ) (calls : List Call) → LeavesSession shelf ready (uncalled (with_spare n s)) (record { net = with_spare n' s'; calls = calls })
     → LeavesSession shelf ready (uncalled n) (record { net = n'; calls = calls })
@@ -91,15 +91,15 @@ few_raced shelf ready e items old new fresh recorded x =
 
 -- what is kept is the session
 kept_is : (shelf : List Layer) (ready : Ready) (e : Ended) (items : List Item) (old new : SocketsState) (s : Held) → old.net.trace ≡ [] → reverse items ≡ new.net.trace
-    → s ≡ parted items e.raced e.answer (members_by e.exchanged) (outcome_by e.exchanged) → (x : IsEnded shelf ready e old new) → s ≡ held_of shelf ready x.course
+    → s ≡ parted items e.raced (Some e.answer) (members_by e.exchanged) (outcome_told (outcome_by e.exchanged)) → (x : IsEnded shelf ready e old new) → s ≡ held_of shelf ready x.course
 kept_is shelf ready e items old new s fresh recorded is x =
     let c = x.course in
     let split = recorded ∙ behind old.net.trace c new.net.trace fresh x.seen.items in
-    is ∙ parts items c.race (items_of (closing c.answer ++ c.exchange)) e.raced e.answer (members_by e.exchanged) (outcome_by e.exchanged) split x.raced
+    is ∙ parts items c.race (items_of (closing c.answer ++ c.exchange)) e.raced (Some e.answer) (members_by e.exchanged) (outcome_told (outcome_by e.exchanged)) split x.raced
     ∙ rw (x.answer, x.members, x.outcome) refl
 
 pub held : {S : Type 0} (Becomes : S → List Call → S → Type 0) (a b : S) (n n' : Net) (shelf : List Layer) (ready : Ready) (e : Ended) (items : List Item) (s : Held)
-    → n.trace ≡ [] → reverse items ≡ n'.trace → s ≡ parted items e.raced e.answer (members_by e.exchanged) (outcome_by e.exchanged)
+    → n.trace ≡ [] → reverse items ≡ n'.trace → s ≡ parted items e.raced (Some e.answer) (members_by e.exchanged) (outcome_told (outcome_by e.exchanged))
     → HasRun Becomes a b n n' (EndsSession shelf ready (Ok e)) → HasRun Becomes a b n n' (HoldsSession shelf ready (Ok s))
 held Becomes a b n n' shelf ready e items s fresh recorded is r =
     record {
@@ -128,7 +128,7 @@ unheld Becomes a b n n' shelf ready e none r =
 
 -- the same of sockets that were lent to the recorder
 pub held_when : {N T : Type 0} (First : T → List Call → T → Type 0) (Becomes : N → List Call → N → Type 0) (net : N → Net) (x y : T) (a b a' b' : N) (shelf : List Layer) (ready : Ready) (e : Ended) (items : List Item) (s : Held)
-    → a' ≡ a → b' ≡ b → ((calls : List Call) → First x calls y → Becomes a' calls b') → (net a).trace ≡ [] → reverse items ≡ (net b').trace → s ≡ parted items e.raced e.answer (members_by e.exchanged) (outcome_by e.exchanged)
+    → a' ≡ a → b' ≡ b → ((calls : List Call) → First x calls y → Becomes a' calls b') → (net a).trace ≡ [] → reverse items ≡ (net b').trace → s ≡ parted items e.raced (Some e.answer) (members_by e.exchanged) (outcome_told (outcome_by e.exchanged))
     → HasRun First x y (net a') (net b') (EndsSession shelf ready (Ok e)) → HasRun Becomes a b (net a) (net b) (HoldsSession shelf ready (Ok s))
 held_when First Becomes net x y a b a' b' shelf ready e items s ea eb to fresh recorded is r =
     subst (λ v. HasRun Becomes a v (net a) (net v) (HoldsSession shelf ready (Ok s))) eb

@@ -1,5 +1,5 @@
 -- The session of scripted sockets is the one that the script determines.
-use Rattle.std.proofs.Common.{◌≡◌, ◌++◌, ℕ, List, [], ◌∷◌, refl, sym, ◌∙◌, ap, subst, append-nil}
+use Rattle.std.proofs.Common.{◌≡◌, ◌++◌, List, [], ◌∷◌, refl, sym, ◌∙◌, ap, subst, append-nil}
 use Rattle.taps_framer.specs.Layers.{Layer}
 use Rattle.taps_socket.specs.declared.item.Item.{Item}
 use Rattle.taps_socket.specs.declared.race_answer.RaceAnswer.{RaceAnswer}
@@ -13,15 +13,15 @@ use Rattle.taps_exchange.specs.Scripts as scripts
 use Rattle.taps_exchange.specs.Scripts.{ExchangeIsUnique}
 use Rattle.taps_exchange.specs.Turns.{Turn, turn_of}
 use Rattle.taps_exchange.specs.declared.outcome.Outcome.{Outcome}
-use Rattle.taps_command.specs.Nets.{HasRun, uncalled}
+use Rattle.taps_command.specs.Nets.{HasRun}
 use Rattle.taps_command.specs.Ready.{Ready}
 use Rattle.taps_command.specs.Meanings.{IsPrinted}
 use Rattle.taps_command.specs.declared.printed.Printed.{Printed}
 use Rattle.std.specs.Prelude.{Ok}
-use Rattle.taps_app.specs.FileSessions.{rules_of, targets_of}
+use Rattle.taps_app.specs.FileSessions.{initiated, rules_of, targets_of, text_of}
 use Rattle.taps_app.specs.ScriptedSessions.{IsScriptedSession, IsSimulated}
-use Rattle.taps_app.specs.SessionLogs.{IsLoggedOn, LeavesSession}
-use Rattle.taps_app.specs.Sessions.{Course, calls_of, closing, members_after, role_of, IsExchangeAfter, IsSessionOf}
+use Rattle.taps_app.specs.SessionLogs.{Held, log_of, status_after, IsLoggedOn, LeavesSession}
+use Rattle.taps_app.specs.Sessions.{Course, calls_of, closing, members_after, role_of, IsExchangeAfter}
 
 -- the earlier calls follow the script as all do
 suffix : (lines : List Line) (calls earlier : List Call) → Follows lines (calls ++ earlier) → Follows lines earlier
@@ -34,7 +34,7 @@ by_answers lines [] h = tt
 by_answers lines (call ∷ calls) h = (h.0, by_answers lines calls h.1)
 
 -- every script determines an exchange
-abbrev UniqueLaw : Type 0
+abbrev pub UniqueLaw : Type 0
 UniqueLaw = (script : List Call → Request → Call) (turn : List Call → Turn) → ExchangeIsUnique script turn
 
 -- behind the same race the exchange is the same
@@ -56,7 +56,7 @@ parts_same : (c d : Course) → d.raced ≡ c.raced → d.race ≡ c.race → d.
 parts_same c d a b e f g = let same : record { raced = d.raced; race = d.race; answer = d.answer; exchange = d.exchange; outcome = d.outcome } ≡ record { raced = c.raced; race = c.race; answer = c.answer; exchange = c.exchange; outcome = c.outcome } = rw (a, b, e, f, g) refl in same
 
 -- a script determines its session
-only_one : (shelf : List Layer) (ready : Ready) (lines : List Line) (c d : Course) → GoesOneWay lines → UniqueLaw → IsScriptedSession shelf ready lines c → IsScriptedSession shelf ready lines d → d ≡ c
+pub only_one : (shelf : List Layer) (ready : Ready) (lines : List Line) (c d : Course) → GoesOneWay lines → UniqueLaw → IsScriptedSession shelf ready lines c → IsScriptedSession shelf ready lines d → d ≡ c
 only_one shelf ready lines c d one_way unique one two =
     let (raced, race, answered) = one_way (rules_of ready) 0 (targets_of ready) [] c.raced d.raced c.race d.race c.answer d.answer (raced_by shelf ready lines c one) (raced_by shelf ready lines d two) in
     let also : IsExchangeAfter ready (members_after shelf ready c.race c.answer) d.exchange d.outcome c.answer = rw (← race, ← answered) two.session.exchanged in
@@ -72,7 +72,7 @@ pub starts_empty : (sockets : Scripted) → sockets ≡ at_first sockets.lines �
 starts_empty sockets first = ap (λ (s : Scripted). s.trace) first
 
 -- the calls on sockets that began by the script follow it
-follows_all : (before after : Scripted) (calls : List Call) → before ≡ at_first before.lines → StaysScripted before calls after → Follows before.lines calls
+pub follows_all : (before after : Scripted) (calls : List Call) → before ≡ at_first before.lines → StaysScripted before calls after → Follows before.lines calls
 follows_all before after calls first stays =
     let start : Represents before [] = subst (λ (s : Scripted). Represents s []) (sym first) (first_represents before.lines) in
     let now : Represents after (calls ++ []) = stays.represents [] start in
@@ -84,13 +84,15 @@ pub simulated_of : (shelf : List Layer) (ready : Ready) (before after : Scripted
     → IsSimulated shelf ready before.lines printed.text.items printed.status
 simulated_of shelf ready before after printed first one_way unique r =
     let logged = r.holds.prints in
-    let follows : Follows before.lines (calls_of logged.course) = subst (λ (c : List Call). Follows before.lines c) logged.calls (follows_all before after r.calls first r.becomes) in
-    let scripted : IsScriptedSession shelf ready before.lines logged.course = record { session = logged.session; follows = follows } in
+    let ran = logged.ran in
+    let follows : Follows before.lines (calls_of ran.course) = subst (λ (c : List Call). Follows before.lines c) ran.calls (follows_all before after r.calls first r.becomes) in
+    let scripted : IsScriptedSession shelf ready before.lines ran.course = record { session = ran.session; follows = follows } in
     record {
-      course = logged.course;
+      course = ran.course;
       scripted = scripted;
-      only = λ other also. only_one shelf ready before.lines logged.course other one_way unique scripted also;
-      judged = logged.seen.judged;
-      log = logged.log;
-      status = logged.status;
+      only = λ other also. only_one shelf ready before.lines ran.course other one_way unique scripted also;
+      judged = ran.seen.judged;
+      times_rise = ran.seen.times_rise;
+      log = logged.log ∙ ap (log_of (text_of ready.pre (initiated ready)) ready.pre.exchange.part) ran.kept;
+      status = logged.status ∙ ap (λ (v : Held). status_after v.answer v.outcome) ran.kept;
     }

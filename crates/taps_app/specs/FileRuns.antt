@@ -11,10 +11,10 @@ use Rattle.taps_command.specs.Ready.{Ready}
 use Rattle.taps_command.specs.Runs.{Takes}
 use Rattle.taps_command.specs.declared.status.Status.{Status}
 use Rattle.taps_app.specs.Run.{run_rules}
-use Rattle.taps_app.specs.SessionLogs.{IsLoggedOn}
+use Rattle.taps_app.specs.Roles.{IsRunOn}
 
--- FILE's bytes, where observable, pass their checks; the calls on the sockets are a session over their plan; and where
--- the sink's bytes are observable too, what it took is the log of that session
+-- FILE's bytes, where observable, pass their checks; the calls on the sockets are a session of their role, over their
+-- plan; and where the sink's bytes are observable too, what it took is the log of that session
 pub record RunsFile (shelf : List Layer) (contents : Contents) (file : List ℕ) (out out' : SinkState)
     (old new : SocketsState) (s : Status) : Type 0 where
   pub bytes : List ℕ
@@ -23,7 +23,7 @@ pub record RunsFile (shelf : List Layer) (contents : Contents) (file : List ℕ)
   pub ready : Ready
   pub passes : checked run_rules shelf bytes ≡ Ok ready
   pub text : List ℕ
-  pub logged : IsLoggedOn shelf ready old new text s
+  pub logged : IsRunOn shelf ready old new text s
   pub takes : Takes answers.Taken out out' text
 
 -- so it is for each status that has a text

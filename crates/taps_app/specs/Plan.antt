@@ -2,7 +2,7 @@
 use Rattle.std.specs.Prelude.{◌≡◌, ℕ, List}
 use Rattle.taps_framer.specs.Layers.{Layer}
 use Rattle.taps_command.specs.Checks.{FileRules, any_file, addresses_for}
-use Rattle.taps_app.specs.FileSessions.{text_of}
+use Rattle.taps_app.specs.FileSessions.{initiated, text_of}
 use Rattle.taps_command.specs.Meanings.{Meaning}
 use Rattle.taps_command.specs.OneFile.{one_file, LeavesAlone}
 use Rattle.taps_command.specs.Ready.{Ready}
@@ -15,7 +15,7 @@ plan_rules = record { supports = any_file; addresses = addresses_for }
 
 -- the text of the plan
 abbrev pub PrintsPlan : Ready → List ℕ → Status → Type 0
-PrintsPlan ready text s = (text ≡ text_of ready) × (s ≡ Done)
+PrintsPlan ready text s = (text ≡ text_of ready.pre (initiated ready)) × (s ≡ Done)
 
 -- one file, of which the plan is written
 abbrev pub plan : List Layer → Meaning

@@ -10,6 +10,7 @@ use Rattle.taps_app.specs.Arguments.{asked_of}
 use Rattle.taps_app.specs.FilePlans.{IsPlanOfFile}
 use Rattle.taps_app.specs.FileRuns.{IsSessionOfFile}
 use Rattle.taps_app.specs.Framings.{IsFramingOf}
+use Rattle.taps_app.specs.Generations.{IsGenerationOf}
 use Rattle.taps_command.specs.Runs.{World, world, names_of}
 use Rattle.taps_app.specs.Simulations.{IsSimulationOf}
 use Rattle.taps_command.specs.declared.status.Status.{Status}
@@ -21,7 +22,8 @@ use Rattle.taps_command.specs.declared.status.Status.TheVariants.{Usage, FileFau
 -- lawful_trace: a command but `run` leaves the sockets as they were; `run` leaves them so too, or made the calls of one
 -- session on them, or where memory ran out its first ones and then the closes.
 -- closed_once: every socket that was opened is closed once.
--- plan_of_file, exchanged, simulated, framed: what single commands write, by the bytes of their files.
+-- plan_of_file, exchanged, simulated, framed, generated: what single commands write, by the bytes of their files, or by
+-- a number.
 -- complete: where contents are observable and no count of faults rose, they decide status and output, but for out of
 -- memory.
 pub record Promises (shelf : List Layer) (words : List (String Global))
@@ -36,6 +38,7 @@ pub record Promises (shelf : List Layer) (words : List (String Global))
   pub exchanged : IsSessionOfFile shelf (names_of words) old.files.contents old.out new.out old.sockets new.sockets s
   pub simulated : IsSimulationOf shelf (names_of words) old.files.contents old.out new.out s
   pub framed : IsFramingOf shelf (names_of words) old.files.contents old.out new.out s
+  pub generated : IsGenerationOf shelf (names_of words) old.out new.out s
   pub complete : IsComplete (asked_of shelf words) old new s
 
 -- the same, where the sockets were so before and after

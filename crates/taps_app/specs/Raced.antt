@@ -15,7 +15,7 @@ use Rattle.taps_socket.specs.RaceSockets.{has}
 use Rattle.taps_socket.specs.RaceTrace.{last_moment}
 use Rattle.taps_socket.specs.Rules.{Rules}
 use Rattle.taps_socket.specs.LawfulRace.{IsLawfulRace}
-use Rattle.taps_socket.specs.Net.{Net, PreservesTraffic}
+use Rattle.taps_socket.specs.Net.{Net, IsUnused, PreservesTraffic}
 use Rattle.taps_connection.specs.Conditions.{IsHeld as IsHeldSocket}
 use Rattle.taps_exchange.specs.Exchanged.{IsExchanged, IsCutShort}
 use Rattle.taps_exchange.specs.Members.{Member}
@@ -38,16 +38,22 @@ abbrev pub HasWinner : List Target → List Item → RaceAnswer → Type 0
 HasWinner targets trace (answers.Ready leaf socket at) = IsWon targets trace leaf socket
 HasWinner targets trace _ = Unit {0}
 
+-- there is no traffic on the winner's socket, if there is a winner
+abbrev pub HasUnusedWinner : Net → RaceAnswer → Type 0
+HasUnusedWinner net (answers.Ready leaf socket at) = IsUnused (net.traffic socket)
+HasUnusedWinner net _ = Unit {0}
+
 -- the item of the close of the winner's socket, if there is a winner
 abbrev pub closes_of : RaceAnswer → List Item
 closes_of (answers.Ready leaf socket at) = item.Closed socket ∷ []
 closes_of _ = []
 
 -- the whole trace is a lawful race with this answer, its last time was reported last, there is room for an exchange and
--- the close of the winner, and with that close every socket is closed once
+-- the close of the winner, on whose socket there is no traffic, and with that close every socket is closed once
 pub record IsRaced (rules : Rules) (targets : List Target) (before after : Net) (answer : RaceAnswer) : Type 0 where
   pub lawful : IsLawfulRace rules 0 targets after.trace answer
   pub winner : HasWinner targets after.trace answer
+  pub unused : HasUnusedWinner after answer
   pub told_last : after.told ≡ last_moment after.trace
   pub closed_once : IsClosedOnce (closes_of answer ++ after.trace)
   pub room : 3 ≤ after.spare

@@ -6,7 +6,7 @@ use Rattle.taps_script.specs.declared.line.Line.{Line}
 use Rattle.taps_command.specs.Ready.{Ready}
 use Rattle.taps_command.specs.declared.status.Status.{Status}
 use Rattle.taps_app.specs.Sessions.{Course, calls_of, members_after, IsSessionOf}
-use Rattle.taps_app.specs.SessionLogs.{AreJudged, log_text, status_after}
+use Rattle.taps_app.specs.SessionLogs.{AreJudged, DoTimesRise, log_text, status_by}
 
 -- a session over the plan, each call of which is what the script answers behind the earlier ones
 pub record IsScriptedSession (shelf : List Layer) (ready : Ready) (lines : List Line) (c : Course) : Type 0 where
@@ -20,5 +20,6 @@ pub record IsSimulated (shelf : List Layer) (ready : Ready) (lines : List Line) 
   pub scripted : IsScriptedSession shelf ready lines course
   pub only : (other : Course) → IsScriptedSession shelf ready lines other → other ≡ course
   pub judged : AreJudged (members_after shelf ready course.race course.answer) course.exchange course.outcome
+  pub times_rise : DoTimesRise (members_after shelf ready course.race course.answer) course.exchange
   pub log : text ≡ log_text shelf ready course
-  pub status : s ≡ status_after course.answer course.outcome
+  pub status : s ≡ status_by course

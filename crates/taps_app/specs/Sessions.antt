@@ -9,7 +9,7 @@ use Rattle.taps_stack.specs.declared.target.Target.{Target}
 use Rattle.taps_socket.specs.declared.item.Item.{Item}
 use Rattle.taps_socket.specs.declared.race_answer.RaceAnswer.{RaceAnswer}
 use Rattle.taps_socket.specs.declared.race_answer.RaceAnswer.TheVariants.{Ready}
-use Rattle.taps_socket.specs.Calls.{Call, closes, AddEach, items_of}
+use Rattle.taps_socket.specs.Calls.{Call, closes, AddEach}
 use Rattle.taps_socket.specs.LawfulRace.{IsLawfulRace}
 use Rattle.taps_socket.specs.RaceTrace.{last_moment}
 use Rattle.taps_exchange.specs.declared.outcome.Outcome.{Outcome}

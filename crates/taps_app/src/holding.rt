@@ -9,9 +9,9 @@ ghost use Rattle.taps_stack.specs.StackTable.{is_stream};
 ghost use Rattle.taps_command.specs.Nets.{HasRun};
 ghost use Rattle.taps_command.specs.Places.{chain_of, IsOnShelf};
 ghost use Rattle.taps_command.specs.Shelves.{layers_on};
-ghost use Rattle.taps_app.specs.FileSessions.{rules_of, targets_of, IsPlanFor};
+ghost use Rattle.taps_app.specs.FileSessions.{initiated, rules_of, targets_of, IsPlanFor};
 ghost use Rattle.taps_app.specs.Raced.{EndsSession, GoesOn, HasWinner, IsRaced};
-ghost use Rattle.taps_app.specs.Session.{HoldsSession};
+ghost use Rattle.taps_app.specs.SessionLogs.{HoldsSession};
 ghost use Rattle.taps_app.specs.Sessions.{deadline_of, member_at};
 
 use crate::messages::messages;
@@ -50,7 +50,7 @@ pub fn hold<L: Layers, N: Sockets>(
 ) -> Result<Session, NoMemory>
     requires shelf { layers_on ⟦<dyn Framer as Framer>⟧ shelf.now ≡ L.layers }
     requires on_shelf { IsOnShelf L.layers ready.now.places }
-    requires plan { IsPlanFor ready.now plan.now }
+    requires plan { IsPlanFor ready.now (initiated ready.now) plan.now }
     requires fresh { (N.net net.old).trace ≡ [] }
     ensures ran { HasRun N.Becomes net.old net.new (N.net net.old) (N.net net.new)
         (HoldsSession L.layers ready.now result) }
@@ -88,7 +88,7 @@ fn record_session<L: Layers, N: Sockets>(
     let (net, items) = recorder.into_parts();
     let _ = net;
     match ended {
-        Ok(ended) => match Session::new(alloc, items, ended) {
+        Ok(ended) => match Session::initiated(alloc, items, ended) {
             Ok(session) => Ok(session),
             Err(none) => Err(none),
         },

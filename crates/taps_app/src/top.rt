@@ -7,6 +7,7 @@ ghost use Rattle.taps_app.specs.Arguments.{asked_of, RunsKind};
 ghost use Rattle.taps_app.specs.Promises.{KeepsPromises};
 
 use crate::commands::frame::Frame;
+use crate::commands::generate::{Gen, gen_of};
 use crate::commands::plan::Plan;
 use crate::commands::run::Run;
 use crate::commands::sim::Sim;
@@ -15,14 +16,15 @@ use crate::kind::{Kind, kind_of};
 use std::alloc::Global;
 use std::marker::Brand;
 use taps_base::{Files, Sink};
-use taps_command::{Layers, Only, Shelf, Status, run_command, usage, vouch_untouched};
+use taps_command::{Layers, Only, Shelf, Status, run_command, run_maker, usage, vouch_untouched};
 use taps_framer::Framer;
 use taps_socket::Sockets;
 
 /// Does what the arguments ask for: `plan FILE` writes the plan of the file, `sim FILE SCRIPT` the
 /// log of its session on scripted sockets, `run FILE` that of its session on `net`, `frame FILE` the
-/// frames of its messages through its framers, which are taken from the shelf by name, and `unframe
-/// FILE BYTES` the messages that the bytes decode to.
+/// frames of its messages through its framers, which are taken from the shelf by name, `unframe FILE
+/// BYTES` the messages that the bytes decode to, and `gen NUMBER` the summary of a session that the
+/// number generates.
 ///
 /// `out` receives the whole text by one write, and nothing where there is none. `err` receives one
 /// line where there is no such command, a file is refused or not read, the output fails or memory
@@ -67,7 +69,7 @@ fn run_words<L: Layers, F: Files, O: Sink, E: Sink, N: Sockets>(
 }
 
 // What the arguments ask for.
-#[tactic(auto, using(crate::proofs::Table::of_words, crate::proofs::Table::of_no_word, crate::proofs::Table::of_other_word))]
+#[tactic(auto, using(crate::proofs::Table::of_words, crate::proofs::Table::of_no_word, crate::proofs::Table::of_gen, crate::proofs::Table::of_other_word))]
 fn run_asked<L: Layers, F: Files, O: Sink, E: Sink, N: Sockets>(
     alloc: Global,
     words: &[String],
@@ -89,7 +91,10 @@ fn run_asked<L: Layers, F: Files, O: Sink, E: Sink, N: Sockets>(
             Some(kind) => {
                 run_kind::<L, F, O, E, N>(alloc, kind, names, files, out, err, net, shelf)
             }
-            None => usage(err),
+            None => match gen_of(word.as_str(), names) {
+                Some(made) => run_maker::<Gen, L, O, E>(alloc, &made, shelf, out, err),
+                None => usage(err),
+            },
         },
         [] => usage(err),
     }

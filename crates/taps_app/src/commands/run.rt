@@ -2,10 +2,10 @@ use crate::session_log::session_text;
 use std::alloc::Global;
 use taps_base::{List, NoMemory};
 use taps_command::{
-    FileRules, Layers, OneFile, Printed, Ready, Shelf, Unready, derive, has_one_member, is_initiate,
+    FileRules, Layers, OneFile, Printed, Ready, Shelf, Unready, derive, has_one_member,
 };
 use taps_endpoint::Address;
-use taps_preconnection::Preconnection;
+use taps_preconnection::{Preconnection, RunRole};
 use taps_socket::Sockets;
 
 /// `run FILE` runs the file's session on the sockets, and writes its log.
@@ -17,20 +17,24 @@ impl FileRules for Run {
     ghost rules = { run_rules };
 
     fn supports(pre: &Preconnection) -> bool {
-        has_one_member(pre) && is_initiate(pre.exchange.role)
+        has_one_member(pre)
     }
 
     fn addresses(alloc: Global, pre: &Preconnection) -> Result<List<Address>, Unready> {
-        derive(alloc, pre)
+        match pre.exchange.role {
+            RunRole::Listen => Ok(List::new(alloc)),
+            RunRole::Initiate => derive(alloc, pre),
+            RunRole::Loop => derive(alloc, pre),
+        }
     }
 }
 
 impl<L: Layers> OneFile<L> for Run {
-    ghost use Rattle.taps_app.specs.SessionLogs.{IsLoggedOn, LeavesSession};
+    ghost use Rattle.taps_app.specs.Roles.{IsRunOn, LeavesRun};
 
-    ghost Prints = { IsLoggedOn L.layers };
+    ghost Prints = { IsRunOn L.layers };
 
-    ghost MayLeave = { LeavesSession L.layers };
+    ghost MayLeave = { LeavesRun L.layers };
 
     fn print<N: Sockets>(
         alloc: Global,
@@ -38,6 +42,6 @@ impl<L: Layers> OneFile<L> for Run {
         ready: &Ready,
         net: &mut N,
     ) -> Result<Printed, NoMemory> {
-        session_text::<L, N>(alloc, shelf, ready, net)
+        session_text::<L, N>(alloc, shelf, ready, ready.pre.exchange.role, net)
     }
 }

@@ -87,8 +87,8 @@ impl<L: Layers> Command<L> for Sim {
     }
 }
 
-// SCRIPT, after FILE.
-fn check_script<L: Layers>(
+/// SCRIPT, after FILE.
+pub fn check_script<L: Layers>(
     alloc: Global,
     value: TwoFiles<ScriptSockets>,
     bytes: &[u8],
