@@ -1,5 +1,3 @@
 mod Planning
 mod Decoding
 mod Racing
-mod Talking
-mod Calling

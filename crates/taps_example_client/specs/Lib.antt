@@ -1,6 +1,5 @@
 pub mod PlanFacts
 pub mod Plans
 pub mod Races
-pub mod Talks
 pub mod Clients
 pub mod Decodings

@@ -1,40 +1,60 @@
-ghost use Rattle.std.specs.Prelude.{◌≡◌, ◌<◌, ◌^◌, [], length, slice_get, Some, IfOk, OnErr};
+ghost use Rattle.std.specs.Prelude.{◌≡◌, ◌<◌, ◌^◌, [], length, slice_get, Some};
 ghost use Rattle.std.specs.Option.{option_map};
+ghost use Rattle.taps_chain.specs.Layers.{layers_of};
 ghost use Rattle.taps_socket.specs.RaceSockets.{pending_sockets};
 ghost use Rattle.taps_example_client.specs.PlanFacts.{IsPlanOf};
-ghost use Rattle.taps_example_client.specs.Clients.{HasCalled, MayHaveCalled};
+ghost use Rattle.taps_example_client.specs.Clients.{HasCalled, wants};
 
-use crate::{Planned, race_over, talk_over};
+use crate::{Planned, race_over};
 use std::alloc::Global;
-use taps_base::{Body, NoMemory};
+use taps_base::NoMemory;
 use taps_chain::Chain;
+use taps_exchange::{Exchanged, exchange_over};
+use taps_framer::Framer;
 use taps_message::Message;
+use taps_property::ConnectionProps;
 use taps_racer::RaceAnswer;
 use taps_socket::Sockets;
 use taps_stack::Stack;
 
-/// Races the leaves of a plan, and talks over the winner's socket up to a time in milliseconds. It is
-/// `None` where there is no winner, or `talk_over` hears nothing. No socket of the race stays open.
+/// What comes of a call.
+#[derive(Debug, Drop)]
+pub enum Called {
+    /// The race has this answer, and no winner.
+    NoWinner(RaceAnswer),
+    /// So messages were exchanged over the winner's socket.
+    Exchanged(Exchanged),
+}
+
+/// Races the leaves of a plan, sends messages over the winner's socket and hears so many, both up to a
+/// time in milliseconds, and closes the socket, whatever came. No other socket of the race stays open.
 pub fn call_over<N: Sockets>(
     alloc: Global,
     planned: &Planned,
     chain: Chain<'_>,
-    message: Message,
+    messages: Vec<Message>,
+    needs: u64,
     until: u64,
     net: &mut N,
-) -> Result<Option<Body>, NoMemory>
+) -> Result<Called, NoMemory>
     requires plan { IsPlanOf planned.now.pre planned.now.plan }
     requires idle { pending_sockets (N.net net.old).trace ≡ [] }
     requires until { until < 2 ^ 63 }
-    ensures called { IfOk result (λ heard. HasCalled planned.now (N.net net.old) (N.net net.new)) }
-    ensures may { OnErr result (MayHaveCalled planned.now (N.net net.old) (N.net net.new)) }
+    ensures { HasCalled N.net N.Becomes planned.now
+        (wants (layers_of ⟦<dyn Framer as Framer>⟧ chain.entry) messages.items needs until) net.old net.new result }
 {
     match race_over(alloc, planned, net)? {
         RaceAnswer::Ready { leaf, socket, at } => {
             let stack = stack_of(planned, leaf);
-            talk_over(alloc, socket, stack, chain, message, at, until, net)
+            let props = ConnectionProps::defaults();
+            match exchange_over(
+                alloc, socket, stack, chain, props, 4096, messages, at, needs, until, net,
+            ) {
+                Ok(exchanged) => Ok(Called::Exchanged(exchanged)),
+                Err(none) => Err(none),
+            }
         }
-        _ => Ok(None),
+        answer => Ok(Called::NoWinner(answer)),
     }
 }
 

@@ -1,5 +1,5 @@
 //! A caller of taps as a library, as `docs/LIBRARY.md` explains it: the plan of a file, a race over any
-//! sockets, a talk with its winner, and messages through a chain of framers.
+//! sockets, an exchange of messages over the winner's, and messages through a chain of framers.
 #![tactic(auto)]
 
 mod client;
@@ -8,10 +8,8 @@ mod plan;
 mod race;
 #[cfg(test)]
 mod rows;
-mod talk;
 
-pub use client::call_over;
+pub use client::{Called, call_over};
 pub use messages::{DecodeError, decode};
 pub use plan::{PlanError, Planned, plan_of_file, text};
 pub use race::race_over;
-pub use talk::talk_over;

@@ -2,12 +2,13 @@
 ghost use Rattle.std.specs.Prelude.{◌≡◌, length};
 ghost use Rattle.taps_example_client.specs.PlanFacts.{IsPlanOf};
 
-use crate::{DecodeError, Planned, call_over, decode, plan_of_file, race_over, text};
+use crate::{Called, DecodeError, Planned, call_over, decode, plan_of_file, race_over, text};
 use std::alloc::Global;
 use std::process::Abort;
 use std::test::Fail;
 use taps_base::Body;
 use taps_chain::Chain;
+use taps_exchange::Outcome;
 use taps_framer::Framer;
 use taps_frames::Netstring;
 use taps_message::Message;
@@ -74,30 +75,34 @@ fn a_message_there_and_back(rt: HostRuntime) -> Result<(), Fail> {
     shelf.push(Box::new(alloc, Netstring)?)?;
     assert_eq!(rt; shelf.len(), 1);
     let chain = Chain::new(alloc, &shelf, &[0])?;
-    let body = heard_back(alloc, &planned, chain)?;
-    assert!(rt; is_hello(&body));
-    Ok(())
+    is_answered(&rt, alloc, &planned, chain)
 }
 
-fn heard_back(alloc: Global, planned: &Planned, chain: Chain<'_>) -> Result<Option<Body>, Fail>
+fn is_answered(
+    rt: &impl Abort,
+    alloc: Global,
+    planned: &Planned,
+    chain: Chain<'_>,
+) -> Result<(), Fail>
     requires { IsPlanOf planned.now.pre planned.now.plan }
 {
-    let message = message(alloc)?;
+    let messages = vec![in alloc; message(alloc)?]?;
     let mut net = ScriptSockets::read(alloc, ECHO)?;
-    Ok(call_over(alloc, planned, chain, message, 1000, &mut net)?)
+    let called = call_over(alloc, planned, chain, messages, 1, 1000, &mut net)?;
+    let Called::Exchanged(exchanged) = called else {
+        return Err(Fail::from("no leaf won"));
+    };
+    assert_eq!(rt; exchanged.outcome, Outcome::Done);
+    assert_eq!(rt; exchanged.sent, 1);
+    assert_eq!(rt; exchanged.heard.len(), 1);
+    assert_eq!(rt; exchanged.heard[0].bytes(), b"hello".as_slice());
+    Ok(())
 }
 
 fn message(alloc: Global) -> Result<Message, Fail> {
     let body = Body::from_slice(alloc, b"hello")?;
     let props = MessageProps::defaults(true, true, Capacity::Default, false);
     Ok(Message { body, props })
-}
-
-fn is_hello(body: &Option<Body>) -> bool {
-    match body {
-        Some(body) => body.bytes() == b"hello".as_slice(),
-        None => false,
-    }
 }
 
 #[test]
