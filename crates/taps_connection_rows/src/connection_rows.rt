@@ -178,7 +178,7 @@ const OUT: [Row; 8] = [
     ),
 ];
 
-const IN: [Row; 8] = [
+const IN: [Row; 9] = [
     // The messages of a stream, in any cutting; the rest is no message.
     (
         b"leaf 0 completes 0\ngive 2\npeer sends 5 00030001020000000100\npeer sends 9 0005\npeer ends 20",
@@ -302,6 +302,24 @@ const IN: [Row; 8] = [
         0,
     ),
     (
+        b"leaf 0 completes 0\npeer echo\ngive 1",
+        Stack::Udp,
+        false,
+        65536,
+        &[
+            Step::Send(65507, false),
+            Step::Send(1, false),
+            Step::Out(50, Pushed::Sent(0)),
+            Step::Out(50, Pushed::Sent(1)),
+            Step::In(50, Pulled::Got),
+            Step::Hears(65507),
+            Step::In(50, Pulled::Got),
+            Step::Hears(1),
+            Step::In(50, Pulled::Timed(50)),
+        ],
+        0,
+    ),
+    (
         b"leaf 0 completes 0\npeer fails 5 reset",
         Stack::Tcp,
         true,
@@ -342,7 +360,8 @@ fn count_shuts(items: &[Item]) -> usize {
         .count()
 }
 
-fn count_closes(items: &[Item]) -> usize {
+/// How many sockets were closed.
+pub fn count_closes(items: &[Item]) -> usize {
     items
         .iter()
         .filter(|item| matches!(item, Item::Closed { .. }))
@@ -484,9 +503,13 @@ fn messages_come_in(rt: HostRuntime) -> Result<(), Fail> {
     Ok(())
 }
 
-// How many pieces of 65,536 bytes come on a stream with no layer before it ends, and the calls behind the first 64 of them.
-const LONG: [(usize, &[Step]); 2] = [
+// How many bytes are asked for at once of a stream with no layer, how often they come before it ends, how often they
+// are read first, and the calls behind these.
+const LONG: [(u64, usize, u64, &[Step]); 3] = [
+    // 4,194,304 bytes.
     (
+        65536,
+        64,
         64,
         &[
             Step::Needs,
@@ -495,8 +518,23 @@ const LONG: [(usize, &[Step]); 2] = [
             Step::Needs,
         ],
     ),
+    // 4,194,305 bytes.
     (
+        10565,
+        397,
+        396,
+        &[
+            Step::Needs,
+            Step::In(50, Pulled::Got),
+            Step::Bad(0, 0, 4194304),
+            Step::Bad(0, 0, 4194304),
+        ],
+    ),
+    // 4,259,840 bytes.
+    (
+        65536,
         65,
+        64,
         &[
             Step::Needs,
             Step::In(50, Pulled::Got),
@@ -520,19 +558,21 @@ fn take_long(
     rt: &impl Abort,
     alloc: Global,
     shelf: &Vec<Box<dyn Framer>>,
-    script: &[u8],
-    steps: &[Step],
+    row: &(u64, usize, u64, &[Step]),
 ) -> Result<(), NoMemory>
     requires { length shelf.now.items ≡ 1 }
 {
-    let Ok(net) = ScriptSockets::read(alloc, script) else {
+    let (piece, pieces, first, steps) = *row;
+    let script = make_script(alloc, pieces)?;
+    let Ok(net) = ScriptSockets::read(alloc, &script) else {
         assert!(rt; false);
         return Ok(());
     };
+    assert!(rt; piece >= 1 && piece <= 65536);
     let mut net = LongSockets::new(net);
     let got = Step::In(50, Pulled::Got);
-    match connect(alloc, shelf, Stack::Tcp, false, 65536, &mut net)? {
-        Some(connection) => use_up(rt, alloc, connection, &mut net, 64, got, steps),
+    match connect(alloc, shelf, Stack::Tcp, false, piece, &mut net)? {
+        Some(connection) => use_up(rt, alloc, connection, &mut net, first, got, steps),
         None => assert!(rt; false),
     }
     Ok(())
@@ -543,9 +583,8 @@ fn a_stream_of_4194304_bytes_is_a_message(rt: HostRuntime) -> Result<(), Fail> {
     let mut shelf: Vec<Box<dyn Framer>> = Vec::new(rt.alloc());
     shelf.push(Box::new(rt.alloc(), Len16)?)?;
     assert_eq!(rt; shelf.len(), 1);
-    for (bytes, steps) in &LONG {
-        let script = make_script(rt.alloc(), *bytes)?;
-        take_long(&rt, rt.alloc(), &shelf, &script, steps)?;
+    for row in &LONG {
+        take_long(&rt, rt.alloc(), &shelf, row)?;
     }
     Ok(())
 }

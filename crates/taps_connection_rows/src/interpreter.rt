@@ -192,12 +192,16 @@ fn drive_in<N: Sockets, R: Abort>(
     }
 }
 
-// What is to be heard.
+/// What is to be heard.
 #[derive(Clone, Copy)]
-enum Expected {
+pub enum Expected {
+    /// A message of so many bytes, which count from 0 to 250.
     Counted(usize),
+    /// A message of so many bytes.
     Any(usize),
+    /// Nothing yet.
     Need,
+    /// What came is bad.
     Bad(BadAt),
 }
 
@@ -236,7 +240,8 @@ fn compare(rt: &impl Abort, heard: &Heard, expected: Expected) {
     }
 }
 
-fn compare_body(rt: &impl Abort, body: &Body, expected: Expected) {
+/// Compares what was heard.
+pub fn compare_body(rt: &impl Abort, body: &Body, expected: Expected) {
     match expected {
         Expected::Counted(length) => {
             assert_eq!(rt; body.bytes().len(), length);

@@ -16,6 +16,8 @@ mod meeting;
 mod part_rows;
 #[cfg(test)]
 mod queue_rows;
+#[cfg(test)]
+mod want_of_memory;
 
 pub use long::LongSockets;
 pub use meeting::meet;

@@ -7,7 +7,7 @@ use taps_base::{
 };
 
 // Texts, and whether each is a name.
-const NAMES: [(&str, bool); 8] = [
+static NAMES: [(&str, bool); 8] = [
     ("a", true),
     ("Zz09-_.", true),
     ("", false),
@@ -21,10 +21,9 @@ const NAMES: [(&str, bool); 8] = [
 fn is_read_as(rt: &impl Abort, alloc: Global, text: &str, named: bool) {
     match Name::read(alloc, text.as_bytes()) {
         Ok(name) => {
-            assert!(rt; named);
-            assert_eq!(rt; name.as_str(), text);
+            assert!(rt; named && name.as_str() == text, "{text}");
         }
-        Err(_) => assert!(rt; !named),
+        Err(_) => assert!(rt; !named, "{text}"),
     }
 }
 
@@ -45,7 +44,7 @@ fn a_name_has_at_most_253_bytes(rt: HostRuntime) -> Result<(), Fail> {
 }
 
 // How a read is answered.
-#[derive(Clone, Copy, Debug)]
+#[derive(Clone, Copy)]
 enum Expected {
     Bytes(&'static str),
     TooLong,
@@ -53,7 +52,7 @@ enum Expected {
 }
 
 // Reads one after the other: the name, the most bytes, and the answer. The read of number 2 fails.
-const READS: [(&str, u64, Expected); 6] = [
+static READS: [(&str, u64, Expected); 6] = [
     ("three", 3, Expected::Bytes("abc")),
     ("three", 2, Expected::TooLong),
     ("three", 3, Expected::Failed),
@@ -88,7 +87,7 @@ fn files_in_memory_are_read(rt: HostRuntime) -> Result<(), Fail> {
 }
 
 // Reads of files of the system.
-const SYSTEM_READS: [(&str, u64, Expected); 5] = [
+static SYSTEM_READS: [(&str, u64, Expected); 5] = [
     ("three", 3, Expected::Bytes("abc")),
     ("empty", 0, Expected::Bytes("")),
     ("three", 2, Expected::TooLong),
@@ -131,7 +130,7 @@ fn files_of_the_system_are_read(rt: HostRuntime) -> Result<(), Fail> {
 
 // Writes one after the other into a sink of 5 bytes whose write of number 1 fails, each with its
 // answer and all bytes that are taken then.
-const WRITES: [(&str, SinkAnswer, &str); 4] = [
+static WRITES: [(&str, SinkAnswer, &str); 4] = [
     ("le", SinkAnswer::Taken, "le"),
     ("av", SinkAnswer::Failed, "le"),
     ("ave", SinkAnswer::Taken, "leave"),
@@ -143,28 +142,34 @@ fn a_sink_in_memory_takes_what_fits(rt: HostRuntime) -> Result<(), Fail> {
     let mut sink = MemorySink::new(rt.alloc(), 5, Some(1))?;
     for (bytes, answer, taken) in &WRITES {
         assert!(rt; !bytes.is_empty());
-        assert_eq!(rt; sink.write(bytes.as_bytes()), *answer, "{bytes}");
-        assert_eq!(rt; sink.bytes(), taken.as_bytes(), "{bytes}");
+        assert!(rt; sink.write(bytes.as_bytes()) == *answer, "{bytes}");
+        assert!(rt; sink.bytes() == taken.as_bytes(), "{bytes}");
     }
     Ok(())
 }
 
 #[test]
 fn a_list_uses_its_room(rt: HostRuntime) -> Result<(), Fail> {
-    let mut list = List::new(rt.alloc());
+    let list = reserved(rt.alloc())?;
+    assert!(rt; list.as_slice() == b"xy".as_slice());
+    assert!(rt; matches!(list.get(1), Some(b'y')));
+    Ok(())
+}
+
+fn reserved(alloc: Global) -> Result<List<u8>, Fail> {
+    let mut list = List::new(alloc);
     list.reserve(2)?;
     list.add(b'x');
-    assert!(rt; list.push(b'y').is_ok());
-    assert_eq!(rt; list.get(1).copied(), Some(b'y'));
-    assert_eq!(rt; list.as_slice(), b"xy".as_slice());
-    Ok(())
+    match list.push(b'y') {
+        Ok(()) => Ok(list),
+        Err((none, _)) => Err(Fail::from(none)),
+    }
 }
 
 #[test]
 fn bodies_are_their_bytes(rt: HostRuntime) -> Result<(), Fail> {
     let body = Body::from_slice(rt.alloc(), b"xy")?;
-    assert_eq!(rt; body.bytes(), b"xy".as_slice());
     let text = Body::from_text(String::from_str(rt.alloc(), "xy")?);
-    assert_eq!(rt; text.bytes(), body.bytes());
+    assert!(rt; body.bytes() == b"xy".as_slice() && text.bytes() == b"xy".as_slice());
     Ok(())
 }

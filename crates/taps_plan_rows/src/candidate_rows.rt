@@ -10,7 +10,7 @@ use taps_preconnection::{Preconnection, read_preconnection};
 use taps_property::Role;
 
 // Files, each with the plan of Initiate.
-const PLANS: [(&str, &str); 6] = [
+static PLANS: [(&str, &str); 6] = [
     (
         "remote = [{ host = \"h\", port = 9000 }]\nhosts = { h = [\"::1\", \"::2\", \"127.0.0.1\"] }",
         "leaves 3\n0 any tcp [::1]:9000 +0\n1 any tcp 127.0.0.1:9000 +250\n2 any tcp [::2]:9000 +250\n",
@@ -38,11 +38,11 @@ const PLANS: [(&str, &str); 6] = [
 ];
 
 fn read(alloc: Global, file: &str) -> Result<Preconnection, Fail> {
-    Ok(read_preconnection(alloc, file.as_bytes()).map_err(|_| "refused")?)
+    Ok(read_preconnection(alloc, file.as_bytes())?)
 }
 
 fn addresses(alloc: Global, pre: &Preconnection) -> Result<List<Address>, Fail> {
-    Ok(derive_addresses(alloc, &pre.remotes, &pre.hosts).map_err(|_| "addresses")?)
+    Ok(derive_addresses(alloc, &pre.remotes, &pre.hosts)?)
 }
 
 fn text(alloc: Global, pre: &Preconnection) -> Result<Body, Fail>
@@ -56,7 +56,7 @@ fn text_over(alloc: Global, pre: &Preconnection, addresses: &List<Address>) -> R
     requires { length pre.now.paths.items ≤ 8 }
 {
     match build_plan(alloc, pre, Role::Initiate, addresses) {
-        Ok(plan) => Ok(plan_text(alloc, pre, &plan).map_err(|_| "memory")?),
+        Ok(plan) => Ok(plan_text(alloc, pre, &plan)?),
         Err(_) => Err(Fail::from("memory")),
     }
 }
@@ -78,7 +78,7 @@ fn holds<R: Abort>(rt: &R, alloc: Global, file: &str, wanted: &str) -> Result<()
 
 #[test]
 fn plans_as_worked_out(rt: HostRuntime) -> Result<(), Fail> {
-    for (file, text) in PLANS {
+    for (file, text) in &PLANS {
         holds(&rt, rt.alloc(), file, text)?;
     }
     Ok(())

@@ -7,7 +7,7 @@ use taps_preconnection::{MessageSet, PreError, apply_set, read_preconnection};
 use taps_property::{Capacity, MessageProps};
 
 // How a file is answered: it is read, or refused, mostly for the key at a path.
-#[derive(Clone, Copy, Debug)]
+#[derive(Clone, Copy)]
 enum Answer<'a> {
     Read,
     NotToml,

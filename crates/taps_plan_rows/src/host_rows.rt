@@ -12,13 +12,13 @@ enum Given {
 }
 
 // Names, each with how many addresses it is given: `1::`, `2::` and so on. The last one counts.
-const NAMES: [(&str, u16); 3] = [("a", 7), ("b", 31), ("a", 2)];
+static NAMES: [(&str, u16); 3] = [("a", 7), ("b", 31), ("a", 2)];
 
 // Names, each with how many addresses it has then.
-const FOUND: [(&str, Option<usize>); 3] = [("a", Some(2)), ("b", Some(31)), ("c", None)];
+static FOUND: [(&str, Option<usize>); 3] = [("a", Some(2)), ("b", Some(31)), ("c", None)];
 
 // Remotes that are added one by one, each with the number of addresses that are derived then.
-const REMOTES: [(Given, Result<u64, DeriveError>); 8] = [
+static REMOTES: [(Given, Result<u64, DeriveError>); 8] = [
     (Given::Host("none", 9), Ok(0)),
     (Given::Literal("[1:0:0:0:0:0:0:0]:9"), Ok(1)),
     (Given::Host("a", 9), Ok(2)),
@@ -30,14 +30,14 @@ const REMOTES: [(Given, Result<u64, DeriveError>); 8] = [
 ];
 
 fn name(alloc: Global, text: &str) -> Result<Name, Fail> {
-    Ok(Name::read(alloc, text.as_bytes()).map_err(|_| "no name")?)
+    Ok(Name::read(alloc, text.as_bytes())?)
 }
 
 fn push_ip(ips: &mut List<Ip>, first: u16) -> Result<(), Fail> {
-    Ok(
-        ips.push(Ip::V6([first, 0, 0, 0, 0, 0, 0, 0]))
-            .map_err(|_| "memory")?,
-    )
+    match ips.push(Ip::V6([first, 0, 0, 0, 0, 0, 0, 0])) {
+        Ok(()) => Ok(()),
+        Err((none, _)) => Err(Fail::from(none)),
+    }
 }
 
 fn ips(alloc: Global, count: u16) -> Result<List<Ip>, Fail> {
@@ -50,12 +50,12 @@ fn ips(alloc: Global, count: u16) -> Result<List<Ip>, Fail> {
 
 fn put(alloc: Global, hosts: &mut Hosts, text: &str, ips: List<Ip>) -> Result<(), Fail> {
     let name = name(alloc, text)?;
-    Ok(hosts.put(name, ips).map_err(|_| "memory")?)
+    Ok(hosts.put(name, ips)?)
 }
 
 fn put_all(alloc: Global, hosts: &mut Hosts) -> Result<(), Fail> {
-    for (text, count) in NAMES {
-        let ips = ips(alloc, count)?;
+    for (text, count) in &NAMES {
+        let ips = ips(alloc, *count)?;
         put(alloc, hosts, text, ips)?;
     }
     Ok(())
@@ -67,7 +67,7 @@ fn host(alloc: Global, text: &str, port: u16) -> Result<Remote, Fail> {
 }
 
 fn literal(text: &str) -> Result<Remote, Fail> {
-    Ok(Remote::Literal(parse_address(text.as_bytes()).map_err(|_| "no address")?))
+    Ok(Remote::Literal(parse_address(text.as_bytes())?))
 }
 
 fn remote(alloc: Global, given: Given) -> Result<Remote, Fail> {
@@ -79,7 +79,10 @@ fn remote(alloc: Global, given: Given) -> Result<Remote, Fail> {
 
 fn push(alloc: Global, remotes: &mut List<Remote>, given: Given) -> Result<(), Fail> {
     let remote = remote(alloc, given)?;
-    Ok(remotes.push(remote).map_err(|_| "memory")?)
+    match remotes.push(remote) {
+        Ok(()) => Ok(()),
+        Err((none, _)) => Err(Fail::from(none)),
+    }
 }
 
 // How many addresses these remotes have.
@@ -92,9 +95,9 @@ fn count_of(alloc: Global, remotes: &List<Remote>, hosts: &Hosts) -> Result<u64,
 
 fn count_each<R: Abort>(rt: &R, alloc: Global, hosts: &Hosts) -> Result<(), Fail> {
     let mut remotes = List::new(alloc);
-    for (given, count) in REMOTES {
-        push(alloc, &mut remotes, given)?;
-        assert_eq!(rt; count_of(alloc, &remotes, hosts), count);
+    for (given, count) in &REMOTES {
+        push(alloc, &mut remotes, *given)?;
+        assert!(rt; count_of(alloc, &remotes, hosts) == *count);
     }
     Ok(())
 }
@@ -109,9 +112,9 @@ fn found(alloc: Global, hosts: &Hosts, text: &str) -> Result<Option<usize>, Fail
 }
 
 fn find_each<R: Abort>(rt: &R, alloc: Global, hosts: &Hosts) -> Result<(), Fail> {
-    for (text, count) in FOUND {
+    for (text, count) in &FOUND {
         let found = found(alloc, hosts, text)?;
-        assert_eq!(rt; found, count, "at {text}");
+        assert!(rt; found == *count, "at {text}");
     }
     Ok(())
 }

@@ -1,5 +1,6 @@
+ghost use Rattle.std.specs.Prelude.{◌≡◌, ◌≤◌, ℕ, Some};
+
 use std::alloc::Global;
-use std::process::Abort;
 use std::test::Fail;
 use taps_base::Body;
 use taps_endpoint::Address;
@@ -52,76 +53,91 @@ const READY: RaceAnswer = RaceAnswer::Ready {
 const READY_LOG: &str =
     "begin 0\nstart 0 socket 0 at 0\nwait 250 reached 250\nstart 1 socket 1 at 250\nwait 30000 completed 1 at 310\nclose 0\nready 1\nclose 1\nsent 0 0\ndone\n";
 
-// The log of a session that ended so is this text.
-fn ends<R: Abort>(
-    rt: &R,
+fn is_text(alloc: Global, log: &Log<'_>, wanted: &str) -> Result<bool, Fail>
+    requires { (most : ℕ) → log.now.part ≡ Some most → 1 ≤ most }
+{
+    let mut text = Vec::new(alloc);
+    put_log(&mut text, log)?;
+    Ok(text.as_slice() == wanted.as_bytes())
+}
+
+// The log of a session of one member that ended so is this text.
+fn is_logged(
     alloc: Global,
-    race: &[Item],
+    before: &[Item],
     answer: RaceAnswer,
     outcome: Outcome,
     wanted: &str,
-) -> Result<(), Fail> {
+) -> Result<bool, Fail> {
     let after = [Item::Closed { socket: 1 }];
-    let mut text = Vec::new(alloc);
-    let members = [MemberLog {
+    let mut members = Vec::new(alloc);
+    members.push(MemberLog {
         sent: 0,
         heard: Vec::new(alloc),
-    }];
+    })?;
     let log = Log {
-        before: race,
+        before,
         answer: Some(answer),
         after: &after,
         members: &members,
         part: None,
         outcome,
     };
-    put_log(&mut text, &log).map_err(|_| "memory")?;
-    assert_eq!(rt; text.as_slice(), wanted.as_bytes());
-    Ok(())
+    is_text(alloc, &log, wanted)
 }
 
 #[test]
 fn a_ready_log_ends_with_its_outcome(rt: HostRuntime) -> Result<(), Fail> {
     let race = RACE;
-    ends(&rt, rt.alloc(), &race, READY, Outcome::Done, READY_LOG)
+    assert!(rt; is_logged(rt.alloc(), &race, READY, Outcome::Done, READY_LOG)?);
+    Ok(())
 }
 
 #[test]
 fn a_log_of_no_items(rt: HostRuntime) -> Result<(), Fail> {
     let wanted = "ready 1\nclose 1\nsent 0 0\ntimed\n";
-    ends(&rt, rt.alloc(), &[], READY, Outcome::Timed, wanted)
+    assert!(rt; is_logged(rt.alloc(), &[], READY, Outcome::Timed, wanted)?);
+    Ok(())
 }
 
 #[test]
 fn any_other_log_ends_with_its_answer(rt: HostRuntime) -> Result<(), Fail> {
     let race = [Item::Began { at: 0 }];
     let closed = RaceAnswer::Closed;
-    ends(
-        &rt,
-        rt.alloc(),
-        &race,
-        closed,
-        Outcome::Done,
-        "begin 0\nclosed\n",
-    )
+    assert!(rt;
+        is_logged(
+            rt.alloc(),
+            &race,
+            closed,
+            Outcome::Done,
+            "begin 0\nclosed\n"
+        )?
+    );
+    Ok(())
 }
 
 // What two members sent and heard, in parts of two bytes, without a race.
 const HEARD_LOG: &str =
     "close 1\nsent 0 2\npart 0 0 6162\nreceived 0 0 63\nreceived 0 1 -\nsent 1 0\nexpired 0 1\n";
 
+fn heard(alloc: Global) -> Result<Vec<Body>, Fail> {
+    let mut heard = Vec::new(alloc);
+    heard.push(Body::from_slice(alloc, b"abc")?)?;
+    heard.push(Body::from_slice(alloc, b"")?)?;
+    Ok(heard)
+}
+
 #[test]
 fn a_log_of_what_was_heard(rt: HostRuntime) -> Result<(), Fail> {
-    let mut heard = Vec::new(rt.alloc());
-    heard.push(Body::from_slice(rt.alloc(), b"abc").map_err(|_| "memory")?)?;
-    heard.push(Body::from_slice(rt.alloc(), b"").map_err(|_| "memory")?)?;
-    let members = [
-        MemberLog { sent: 2, heard },
-        MemberLog {
-            sent: 0,
-            heard: Vec::new(rt.alloc()),
-        },
-    ];
+    let mut members = Vec::new(rt.alloc());
+    members.push(MemberLog {
+        sent: 2,
+        heard: heard(rt.alloc())?,
+    })?;
+    members.push(MemberLog {
+        sent: 0,
+        heard: Vec::new(rt.alloc()),
+    })?;
     let log = Log {
         before: &[],
         answer: None,
@@ -133,8 +149,6 @@ fn a_log_of_what_was_heard(rt: HostRuntime) -> Result<(), Fail> {
             number: 1,
         },
     };
-    let mut text = Vec::new(rt.alloc());
-    put_log(&mut text, &log).map_err(|_| "memory")?;
-    assert_eq!(rt; text.as_slice(), HEARD_LOG.as_bytes());
+    assert!(rt; is_text(rt.alloc(), &log, HEARD_LOG)?);
     Ok(())
 }

@@ -8,7 +8,7 @@ use taps_property::{
 };
 
 // A value of a property, but for a collection.
-#[derive(Clone, Copy, Debug)]
+#[derive(Clone, Copy)]
 enum Given {
     Pref(Preference),
     Flag(bool),
@@ -55,7 +55,7 @@ fn is_given(value: &PropValue, given: Given) -> bool {
 // A property: what it is first, what it is set to, how that is answered, and what it is then.
 struct Row(&'static str, Given, Given, Result<(), PropError>, Given);
 
-const CONNECTION: [Row; 17] = [
+static CONNECTION: [Row; 17] = [
     Row(
         "recvChecksumLen",
         Given::Limit(None),
@@ -177,7 +177,7 @@ const CONNECTION: [Row; 17] = [
     ),
 ];
 
-const MESSAGE: [Row; 12] = [
+static MESSAGE: [Row; 12] = [
     Row(
         "msgLifetime",
         Given::Limit(None),
@@ -264,7 +264,7 @@ const MESSAGE: [Row; 12] = [
     ),
 ];
 
-const SELECTION: [Row; 8] = [
+static SELECTION: [Row; 8] = [
     Row(
         "reliability",
         Given::Pref(Preference::Require),
@@ -330,45 +330,68 @@ fn has(value: &Result<PropValue, PropError>, given: Given) -> bool {
     }
 }
 
+fn connection_is_set(props: &mut ConnectionProps, row: &Row) -> bool {
+    let Row(name, first, given, answer, then) = *row;
+    has(&props.get(name), first)
+        && props.set(name, value(given)) == answer
+        && has(&props.get(name), then)
+}
+
 #[test]
 fn connection_properties_are_set(rt: HostRuntime) -> Result<(), Fail> {
     let mut props = ConnectionProps::defaults();
-    for Row(name, first, given, answer, then) in &CONNECTION {
-        assert!(rt; has(&props.get(name), *first), "{name}");
-        assert_eq!(rt; props.set(name, value(*given)), *answer, "{name}");
-        assert!(rt; has(&props.get(name), *then), "{name}");
+    for row in &CONNECTION {
+        assert!(rt; connection_is_set(&mut props, row), "{}", row.0);
     }
-    assert_eq!(rt;
-        props.set("msgOrdered", PropValue::Flag(true)),
-        Err(PropError::UnknownProperty)
-    );
+    Ok(())
+}
+
+#[test]
+fn connections_have_no_other_property(rt: HostRuntime) -> Result<(), Fail> {
+    let mut props = ConnectionProps::defaults();
+    let answer = props.set("msgOrdered", PropValue::Flag(true));
+    assert!(rt; answer == Err(PropError::UnknownProperty));
     assert!(rt; matches!(props.get("msgOrdered"), Err(PropError::UnknownProperty)));
     Ok(())
+}
+
+fn message_is_set(props: &mut MessageProps, row: &Row) -> bool {
+    let Row(name, first, given, answer, then) = *row;
+    has(&props.get(name), first)
+        && props.set(name, value(given)) == answer
+        && has(&props.get(name), then)
 }
 
 #[test]
 fn message_properties_are_set(rt: HostRuntime) -> Result<(), Fail> {
     let mut props = MessageProps::defaults(true, true, Capacity::CapacitySeeking, false);
-    for Row(name, first, given, answer, then) in &MESSAGE {
-        assert!(rt; has(&props.get(name), *first), "{name}");
-        assert_eq!(rt; props.set(name, value(*given)), *answer, "{name}");
-        assert!(rt; has(&props.get(name), *then), "{name}");
+    for row in &MESSAGE {
+        assert!(rt; message_is_set(&mut props, row), "{}", row.0);
     }
-    assert_eq!(rt;
-        props.set("connState", PropValue::Flag(true)),
-        Err(PropError::UnknownProperty)
-    );
+    Ok(())
+}
+
+#[test]
+fn messages_have_no_other_property(rt: HostRuntime) -> Result<(), Fail> {
+    let mut props = MessageProps::defaults(true, true, Capacity::CapacitySeeking, false);
+    let answer = props.set("connState", PropValue::Flag(true));
+    assert!(rt; answer == Err(PropError::UnknownProperty));
     assert!(rt; matches!(props.get("connState"), Err(PropError::UnknownProperty)));
     Ok(())
+}
+
+fn selection_is_set(selection: &mut Selection, row: &Row) -> bool {
+    let Row(name, first, given, answer, then) = *row;
+    has(&selection.get(name), first)
+        && selection.set(name, value(given)) == answer
+        && has(&selection.get(name), then)
 }
 
 #[test]
 fn selection_properties_are_set(rt: HostRuntime) -> Result<(), Fail> {
     let mut selection = Selection::defaults(rt.alloc(), Role::Listen);
-    for Row(name, first, given, answer, then) in &SELECTION {
-        assert!(rt; has(&selection.get(name), *first), "{name}");
-        assert_eq!(rt; selection.set(name, value(*given)), *answer, "{name}");
-        assert!(rt; has(&selection.get(name), *then), "{name}");
+    for row in &SELECTION {
+        assert!(rt; selection_is_set(&mut selection, row), "{}", row.0);
     }
     assert!(rt; matches!(selection.get("final"), Err(PropError::UnknownProperty)));
     Ok(())

@@ -3,7 +3,7 @@ use taps_property::StackProperty;
 use taps_stack::{Stack, carries, is_stream, offers};
 
 // Stacks and properties, and whether the stack offers the property.
-const OFFERS: [(Stack, StackProperty, bool); 6] = [
+static OFFERS: [(Stack, StackProperty, bool); 6] = [
     (Stack::Tcp, StackProperty::Reliability, true),
     (Stack::Unix, StackProperty::PreserveOrder, true),
     (Stack::Udp, StackProperty::PreserveOrder, false),
@@ -13,7 +13,7 @@ const OFFERS: [(Stack, StackProperty, bool); 6] = [
 ];
 
 // Stacks and families, and whether the stack carries addresses of the family.
-const CARRIES: [(Stack, Family, bool); 6] = [
+static CARRIES: [(Stack, Family, bool); 6] = [
     (Stack::Tcp, Family::Inet4, true),
     (Stack::Tcp, Family::Unix, false),
     (Stack::Udp, Family::Inet6, true),
@@ -24,11 +24,14 @@ const CARRIES: [(Stack, Family, bool); 6] = [
 
 #[test]
 fn stacks_offer_and_carry(rt: HostRuntime) {
-    for (stack, property, wanted) in OFFERS {
-        assert_eq!(rt; offers(stack, property), wanted, "{stack:?} {property:?}");
+    for (stack, property, wanted) in &OFFERS {
+        assert!(rt;
+            offers(*stack, *property) == *wanted,
+            "{stack:?} {property:?}"
+        );
     }
-    for (stack, family, wanted) in CARRIES {
-        assert_eq!(rt; carries(stack, family), wanted, "{stack:?} {family:?}");
+    for (stack, family, wanted) in &CARRIES {
+        assert!(rt; carries(*stack, *family) == *wanted, "{stack:?} {family:?}");
     }
     assert!(rt; is_stream(Stack::Tcp) && is_stream(Stack::Unix) && !is_stream(Stack::Udp));
 }

@@ -10,6 +10,10 @@ mod file_rows;
 #[cfg(test)]
 mod frame_rows;
 #[cfg(test)]
+mod gen_rows;
+#[cfg(test)]
+mod memory_rows;
+#[cfg(test)]
 mod pair_rows;
 #[cfg(test)]
 mod plain_race;

@@ -21,7 +21,7 @@ const EARLY: [Row<'static>; 9] = [
     },
     Row {
         words: &["run", "a.toml"],
-        bytes: b"[[remote]]\naddress = \"127.0.0.1:9000\"\n[exchange]\nrole = \"loop\"\n",
+        bytes: b"[[remote]]\naddress = \"127.0.0.1:9000\"\n[exchange]\nrole = \"loop\"\npriorities = [1]\n",
         ..NOT_YET
     },
     Row {
@@ -30,7 +30,7 @@ const EARLY: [Row<'static>; 9] = [
     },
     Row {
         words: &["run", "a.toml"],
-        bytes: b"[exchange]\nrole = \"listen\"\n",
+        bytes: b"[exchange]\nrole = \"listen\"\npriorities = [1]\n",
         ..NOT_YET
     },
     Row {

@@ -198,7 +198,7 @@ const OTHERS: [Row<'static>; 8] = [
 ];
 
 // The same session over sockets that are handed in.
-const RUNS: [Row<'static>; 2] = [
+const RUNS: [Row<'static>; 3] = [
     Row {
         words: &["run", "a.toml"],
         bytes: b"framers = [\"varint\"]\n[[remote]]\naddress = \"127.0.0.1:9000\"\n[[message]]\ntext = \"hi\"\n[exchange]\nexpect = 1\n",
@@ -212,6 +212,14 @@ const RUNS: [Row<'static>; 2] = [
         net: b"leaf 0 completes 5\npeer sends 10 026869\npeer ends 20\n",
         out: "leaves 1\n0 any tcp 127.0.0.1:9000 +0\nbegin 0\nstart 0 socket 0 at 0\nwait 30000 completed 0 at 5\nready 0\nended 0\nclose 0\nsent 0 0\nreceived 0 0 6869\npeer-ended\n",
         code: 5,
+        ..SIM
+    },
+    Row {
+        words: &["run", "a.toml"],
+        bytes: b"[[local]]\naddress = \"127.0.0.1:9000\"\n[exchange]\nrole = \"listen\"\n",
+        net: b"begin 7\n",
+        out: "leaves 1\n0 any tcp 127.0.0.1:9000 +0\nbegin 7\nlisten refused other at 7\nestablishment-error all-failed\n",
+        code: 4,
         ..SIM
     },
 ];
