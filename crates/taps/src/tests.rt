@@ -1,4 +1,4 @@
-// Races on the loopback of the system, each with an end that the test holds itself.
+// Runs over the sockets of the system: both ends in one program, and ends that the test holds itself.
 use crate::run_real;
 use mio::net::{TcpListener, TcpStream, UdpSocket, UnixListener};
 use std::alloc::Global;
@@ -10,32 +10,123 @@ use std::test::Fail;
 use std::{fs, thread};
 use taps_base::MemorySink;
 use taps_framer::Framer;
+use taps_frames::Len16;
 
 const TRIES: u32 = 1_000_000;
+
+// A file of this name and text, and the end of what `run` writes on it.
+struct Talk {
+    name: &'static str,
+    file: &'static str,
+    end: &'static str,
+}
+
+static BOTH_ENDS_OVER_TCP: Talk = Talk {
+    name: "tcp.toml",
+    file: "framers = [\"len16\"]
+[[local]]
+address = \"127.0.0.1:47113\"
+[[remote]]
+address = \"127.0.0.1:47113\"
+[[message]]
+text = \"a\"
+[[message]]
+text = \"b\"
+[exchange]
+role = \"loop\"
+",
+    end: "\nsent 0 2\nsent 1 0\nreceived 1 0 61\nreceived 1 1 62\ndone\n",
+};
+
+static BOTH_ENDS_OVER_A_UNIX_PATH: Talk = Talk {
+    name: "unix.toml",
+    file: "framers = [\"len16\"]
+[[local]]
+address = \"unix:taps.sock\"
+[[remote]]
+address = \"unix:taps.sock\"
+[[message]]
+text = \"a\"
+[[message]]
+text = \"b\"
+[exchange]
+role = \"loop\"
+",
+    end: "\nsent 0 2\nsent 1 0\nreceived 1 0 61\nreceived 1 1 62\ndone\n",
+};
+
+static TO_A_LISTENER: Talk = Talk {
+    name: "listener.toml",
+    file: "framers = [\"len16\"]
+[[remote]]
+address = \"127.0.0.1:47114\"
+[[message]]
+text = \"a\"
+[[message]]
+text = \"b\"
+",
+    end: "\nready 0\nclose 0\nsent 0 2\ndone\n",
+};
+
+static DATAGRAMS: Talk = Talk {
+    name: "datagrams.toml",
+    file: "profile = \"unreliable-datagram\"
+[[remote]]
+address = \"127.0.0.1:47115\"
+[[message]]
+text = \"a\"
+[[message]]
+text = \"b\"
+",
+    end: "\nready 0\nclose 0\nsent 0 2\ndone\n",
+};
+
+static TO_THE_SECOND_ADDRESS: Talk = Talk {
+    name: "second.toml",
+    file: "[[remote]]
+address = \"127.0.0.2:47112\"
+[[remote]]
+address = \"127.0.0.1:47112\"
+",
+    end: "\nready 1\nclose 1\nsent 0 0\ndone\n",
+};
+
+static TO_A_UNIX_PATH: Talk = Talk {
+    name: "far.toml",
+    file: "[[remote]]
+address = \"unix:far.sock\"
+",
+    end: "\nready 0\nclose 0\nsent 0 0\ndone\n",
+};
 
 fn at_port(port: u16) -> SocketAddr {
     SocketAddr::from((Ipv4Addr::LOCALHOST, port))
 }
 
-// `run` on a file of this name and text ends with 0 and writes a text with this end, and nothing on the error output.
-fn races<R: Abort + Runtime + Net + AllocGlobal + Copy>(
+// `run` on this file ends with 0, writes a text with this end, and nothing on the error output.
+fn holds<R: Abort + Runtime + Net + AllocGlobal + Copy>(rt: &R, talk: &Talk) -> Result<(), Fail> {
+    fs::write(rt, talk.name, talk.file)?;
+    let mut out = MemorySink::new(rt.alloc(), 4096, None)?;
+    let mut err = MemorySink::new(rt.alloc(), 200, None)?;
+    let code = run(rt, talk.name, &mut out, &mut err)?;
+    let log = str::from_utf8(out.bytes());
+    assert!(rt; log.is_ok_and(|log| log.ends_with(talk.end)), "{log:?}");
+    assert_eq!(rt; err.bytes(), b"".as_slice());
+    assert_eq!(rt; code, 0);
+    Ok(())
+}
+
+// The exit code of `run` on this file, with a shelf of one framer.
+fn run<R: Runtime + Net + AllocGlobal + Copy>(
     rt: &R,
     name: &str,
-    text: &str,
-    end: &str,
-) -> Result<(), Fail> {
-    let alloc = rt.alloc();
-    fs::write(rt, name, text)?;
-    let words = words(alloc, name)?;
-    let mut out = MemorySink::new(alloc, 4096, None)?;
-    let mut err = MemorySink::new(alloc, 200, None)?;
-    let shelf: Vec<Box<dyn Framer>> = Vec::new(alloc);
-    let status = run_real(alloc, *rt, &words, &mut out, &mut err, &shelf);
-    let log = str::from_utf8(out.bytes());
-    assert!(rt; log.is_ok_and(|log| log.ends_with(end)), "{log:?}");
-    assert_eq!(rt; err.bytes(), b"".as_slice());
-    assert_eq!(rt; status.code(), 0);
-    Ok(())
+    out: &mut MemorySink,
+    err: &mut MemorySink,
+) -> Result<u8, Fail> {
+    let words = words(rt.alloc(), name)?;
+    let mut shelf: Vec<Box<dyn Framer>> = Vec::new(rt.alloc());
+    shelf.push(Box::new(rt.alloc(), Len16)?)?;
+    Ok(run_real(rt.alloc(), *rt, &words, out, err, &shelf).code())
 }
 
 fn words(alloc: Global, name: &str) -> Result<Vec<String>, Fail> {
@@ -72,61 +163,73 @@ fn heard<S: Read>(alloc: Global, stream: &mut S) -> Result<Vec<u8>, Fail> {
     Err(Fail::from("the stream did not end"))
 }
 
+// The length of the next datagram.
+fn datagram(socket: &UdpSocket, out: &mut [u8]) -> Result<usize, Fail> {
+    for _ in 0..TRIES {
+        match socket.recv(out) {
+            Ok(count) => return Ok(count),
+            Err(e) if e.kind() == ErrorKind::WouldBlock => thread::yield_now(),
+            Err(e) => return Err(Fail::from(e)),
+        }
+    }
+    Err(Fail::from("no datagram came"))
+}
+
+#[test]
+fn both_ends_over_tcp(rt: HostRuntime) -> Result<(), Fail> {
+    holds(&rt, &BOTH_ENDS_OVER_TCP)
+}
+
+// The file of the socket is gone with its listener.
+#[test]
+fn both_ends_over_a_unix_path(rt: HostRuntime) -> Result<(), Fail> {
+    // (what a run that was ended left in this folder)
+    let _gone = fs::remove_file(&rt, "taps.sock");
+    holds(&rt, &BOTH_ENDS_OVER_A_UNIX_PATH)?;
+    assert!(rt; !fs::exists(&rt, "taps.sock")?);
+    Ok(())
+}
+
+#[test]
+fn two_messages_to_a_listener(rt: HostRuntime) -> Result<(), Fail> {
+    let listener = TcpListener::bind(&rt, at_port(47_114))?;
+    holds(&rt, &TO_A_LISTENER)?;
+    let mut far = accepted(&listener)?;
+    assert_eq!(rt;
+        heard(rt.alloc(), &mut far)?.as_slice(),
+        b"\0\x01a\0\x01b".as_slice()
+    );
+    Ok(())
+}
+
+#[test]
+fn two_datagrams(rt: HostRuntime) -> Result<(), Fail> {
+    let far = UdpSocket::bind(&rt, at_port(47_115))?;
+    holds(&rt, &DATAGRAMS)?;
+    let mut piece = [0u8; 64];
+    for want in [b"a", b"b"] {
+        assert_eq!(rt; datagram(&far, &mut piece)?, 1);
+        assert_eq!(rt; &piece[..1], want.as_slice());
+    }
+    Ok(())
+}
+
 #[test]
 fn the_second_address_over_tcp(rt: HostRuntime) -> Result<(), Fail> {
-    let listener = TcpListener::bind(&rt, at_port(47_113))?;
-    races(
-        &rt,
-        "both.toml",
-        "[[remote]]\naddress = \"127.0.0.2:47113\"\n[[remote]]\naddress = \"127.0.0.1:47113\"\n",
-        "\nready 1\nclose 1\nsent 0 0\ndone\n",
-    )?;
+    let listener = TcpListener::bind(&rt, at_port(47_112))?;
+    holds(&rt, &TO_THE_SECOND_ADDRESS)?;
     let mut far = accepted(&listener)?;
     assert_eq!(rt; heard(rt.alloc(), &mut far)?.as_slice(), b"".as_slice());
     Ok(())
 }
 
 #[test]
-fn a_unix_path(rt: HostRuntime) -> Result<(), Fail> {
+fn a_listener_at_a_unix_path(rt: HostRuntime) -> Result<(), Fail> {
     // (the file of an earlier run in this folder)
-    let _gone = fs::remove_file(&rt, "taps.sock");
-    let listener = UnixListener::bind(&rt, "taps.sock")?;
-    races(
-        &rt,
-        "unix.toml",
-        "[[remote]]\naddress = \"unix:taps.sock\"\n",
-        "\nready 0\nclose 0\nsent 0 0\ndone\n",
-    )?;
+    let _gone = fs::remove_file(&rt, "far.sock");
+    let listener = UnixListener::bind(&rt, "far.sock")?;
+    holds(&rt, &TO_A_UNIX_PATH)?;
     let (mut far, _) = listener.accept()?;
     assert_eq!(rt; heard(rt.alloc(), &mut far)?.as_slice(), b"".as_slice());
-    Ok(())
-}
-
-#[test]
-fn a_listener_of_the_test(rt: HostRuntime) -> Result<(), Fail> {
-    let listener = TcpListener::bind(&rt, at_port(47_114))?;
-    races(
-        &rt,
-        "tcp.toml",
-        "[[remote]]\naddress = \"127.0.0.1:47114\"\n",
-        "\nready 0\nclose 0\nsent 0 0\ndone\n",
-    )?;
-    let mut far = accepted(&listener)?;
-    assert_eq!(rt; heard(rt.alloc(), &mut far)?.as_slice(), b"".as_slice());
-    Ok(())
-}
-
-#[test]
-fn a_datagram_socket_of_the_test(rt: HostRuntime) -> Result<(), Fail> {
-    let far = UdpSocket::bind(&rt, at_port(47_115))?;
-    races(
-        &rt,
-        "udp.toml",
-        "profile = \"unreliable-datagram\"\n[[remote]]\naddress = \"127.0.0.1:47115\"\n",
-        "\nready 0\nclose 0\nsent 0 0\ndone\n",
-    )?;
-    let mut piece = [0u8; 64];
-    let none = far.recv(&mut piece);
-    assert!(rt; none.is_err_and(|e| e.kind() == ErrorKind::WouldBlock));
     Ok(())
 }

@@ -1,5 +1,5 @@
 -- What single commands write, by the bytes of their files.
-use Rattle.std.proofs.Common.{◌≡◌, ◌≤◌, ◌++◌, ℕ, List, [], ◌∷◌, Option, Some, None, Result, Ok, Err, refl, sym, ◌∙◌, ap, subst, inl, inr, length, leb, reverse, slice_get, codes, append-nil, String, Global}
+use Rattle.std.proofs.Common.{◌≡◌, ◌≤◌, ◌++◌, ℕ, Bool, true, false, List, [], ◌∷◌, Option, Some, None, Result, Ok, Err, refl, sym, ◌∙◌, ap, subst, inl, inr, length, leb, reverse, slice_get, codes, append-nil, String, Global}
 use Rattle.std.proofs.lemmas.Bool.{cases_Bool, leb-true}
 use Rattle.taps_base.specs.Files.{Contents, IsContent}
 use Rattle.taps_base.specs.Sinks.{SinkState}
@@ -18,7 +18,7 @@ use Rattle.taps_app.specs.Arguments.{asked_in, asked_of}
 use Rattle.taps_command.specs.Checks.{FileRules, most_bytes, most_framed, addresses_for, checked, only_file, first_file, second_file, beside}
 use Rattle.taps_endpoint.specs.DerivedAddresses.{derived_addresses}
 use Rattle.taps_app.specs.FilePlans.{IsPlanned, IsPlanOfFile, plan_to_run}
-use Rattle.taps_app.specs.Roles.{IsRunOn}
+use Rattle.taps_session.specs.Roles.{IsRunOn}
 use Rattle.taps_app.proofs.FileMeanings.{run_meaning, run_plan}
 use Rattle.taps_app.specs.Frame.{frame, frame_rules, IsFramed}
 use Rattle.taps_app.specs.Framings.{FramesFile, UnframesFile, IsFramingOf}
@@ -30,8 +30,11 @@ use Rattle.taps_command.specs.OneFile.{HasRead}
 use Rattle.taps_app.specs.Run.{run, run_rules}
 use Rattle.taps_command.specs.Runs.{World, Ends, Delivers, Judged, Passes, Takes, names_of, status_of}
 use Rattle.taps_app.specs.FileRuns.{RunsFile, IsSessionOfFile}
-use Rattle.taps_app.specs.FileSessions.{initiated, plan_in, plan_for, text_of}
-use Rattle.taps_app.specs.SessionLogs.{Held, held_of, log_of}
+use Rattle.taps_session.specs.FileGroups.{has_one_member}
+use Rattle.taps_session.specs.FileSessions.{initiated, plan_in, plan_for, text_of}
+use Rattle.taps_session.specs.GroupLogs.{held_of_group}
+use Rattle.taps_session.specs.ScriptedSessions.{IsSimulatedBy}
+use Rattle.taps_session.specs.SessionLogs.{Held, held_of, log_of}
 use Rattle.taps_app.specs.Sim.{sim, sim_rules, scripted, or_bad_line, PrintsSimulation}
 use Rattle.taps_app.specs.Simulations.{IsSimulation, IsSimulationOf}
 use Rattle.taps_app.specs.Unframe.{unframe, any_bytes, PrintsMessages}
@@ -149,6 +152,12 @@ log_begins : (plan : List ℕ) (part : Option ℕ) (s : Held) → (rest : List �
 unfolding log_of
 log_begins plan part s = (log_lines (reverse s.before) s.answer (reverse s.after) part s.members s.outcome, refl)
 
+simulated_begins : (one : Bool) (shelf : List Layer) (ready : Ready) (lines : List Line) (text : List ℕ) (s : Status) → IsSimulatedBy one shelf ready lines text s → (rest : List ℕ) × (text ≡ text_of ready.pre (initiated ready) ++ rest)
+simulated_begins true shelf ready lines text s h =
+    let (rest, begins) = log_begins (text_of ready.pre (initiated ready)) ready.pre.exchange.part (held_of shelf ready h.course) in (rest, h.log ∙ begins)
+simulated_begins false shelf ready lines text s h =
+    let (rest, begins) = log_begins (text_of ready.pre (initiated ready)) ready.pre.exchange.part (held_of_group shelf ready h.course) in (rest, h.log ∙ begins)
+
 planned : (rules : FileRules) (shelf : List Layer) (contents : Contents) (file bytes : List ℕ) (ready : Ready) (text rest : List ℕ) (out out' : SinkState) → ((pre : Preconnection) → rules.addresses pre ≡ addresses_for pre)
     → IsContent contents file bytes → checked rules shelf bytes ≡ Ok ready → text ≡ text_of ready.pre (initiated ready) ++ rest → Takes answers.Taken out out' text → IsPlanned contents file out out' (plan_in Initiate)
 planned rules shelf contents file bytes ready text rest out out' derives content passes begins takes =
@@ -225,9 +234,8 @@ simulation shelf file script old new s h =
 sim_planned : (shelf : List Layer) (file script : List ℕ) (old new : World) (s : Status) → Delivers (sim shelf) (file ∷ script ∷ []) answers.Taken old new s → IsPlanned old.files.contents file old.out new.out (plan_in Initiate)
 sim_planned shelf file script old new s h =
     let f = simulation shelf file script old new s h in
-    let simulated = f.simulated in
-    let (rest, begins) = log_begins (text_of f.ready.pre (initiated f.ready)) f.ready.pre.exchange.part (held_of shelf f.ready simulated.course) in
-    planned sim_rules shelf old.files.contents file f.bytes f.ready f.text rest old.out new.out (λ pre. refl) f.content f.passes (simulated.log ∙ begins) f.takes
+    let (rest, begins) = simulated_begins (has_one_member f.ready.pre) shelf f.ready f.lines f.text s f.simulated in
+    planned sim_rules shelf old.files.contents file f.bytes f.ready f.text rest old.out new.out (λ pre. refl) f.content f.passes begins f.takes
 
 frames : (shelf : List Layer) (file : List ℕ) (old new : World) (s : Status) → Delivers (frame shelf) (file ∷ []) answers.Taken old new s → FramesFile shelf old.files.contents file old.out new.out s
 frames shelf file old new s h =

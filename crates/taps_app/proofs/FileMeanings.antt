@@ -11,10 +11,10 @@ use Rattle.taps_preconnection.specs.declared.exchange.RunRole.TheVariants as rol
 use Rattle.taps_preconnection.specs.declared.preconnection.Preconnection.{Preconnection}
 use Rattle.taps_property.specs.declared.role.Role.TheVariants.{Initiate}
 use Rattle.taps_table.specs.declared.pre_error.PreError.{PreError}
-use Rattle.taps_command.specs.Checks.{or_refused, or_not_yet, at_most_32, addresses_for, addressed, shelved, readied, valued, checked}
+use Rattle.taps_command.specs.Checks.{or_refused, at_most_32, addresses_for, addressed, shelved, valued, checked}
 use Rattle.taps_command.specs.Places.{places_on}
 use Rattle.taps_command.specs.Ready.{Ready}
-use Rattle.taps_app.specs.FileSessions.{plan_in, plan_for}
+use Rattle.taps_session.specs.FileSessions.{plan_in, plan_for}
 use Rattle.taps_app.specs.Run.{addresses_as, addresses_to_run, run_rules}
 
 read_there : (read : Result Preconnection PreError) (pre : Preconnection) → or_refused read ≡ Ok pre → read ≡ Ok pre
@@ -31,10 +31,9 @@ derived_in pre addresses h = few_there (derived_addresses pre.hosts pre.remotes.
 -- the meaning of its bytes, and its addresses
 pub run_meaning : (shelf : List Layer) (bytes : List ℕ) (ready : Ready) → checked run_rules shelf bytes ≡ Ok ready
     → (preconnection_of bytes ≡ Ok ready.pre) × (addresses_to_run ready.pre ≡ Ok ready.addresses)
-unfolding checked valued readied shelved addressed
+unfolding checked valued shelved addressed
 run_meaning shelf bytes ready judged =
-    let (pre, read, checks) = both_ok (valued bytes) (λ pre. readied run_rules shelf pre) ready judged in
-    let (one, supported, more) = both_ok (or_not_yet (run_rules.supports pre)) (λ _. shelved run_rules shelf pre) ready checks in
+    let (pre, read, more) = both_ok (valued bytes) (λ pre. shelved run_rules shelf pre) ready judged in
     let (places, framers, rest) = both_ok (places_on shelf pre.framers.items) (λ places. addressed run_rules pre places) ready more in
     let (addresses, found, given) = both_ok (run_rules.addresses pre) (λ addresses. Ok (record { pre = pre; places = places; addresses = addresses })) ready rest in
     let made : record { pre = pre; places = places; addresses = addresses } ≡ ready = ok_same (record { pre = pre; places = places; addresses = addresses }) ready given in

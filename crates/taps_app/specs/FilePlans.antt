@@ -11,7 +11,7 @@ use Rattle.taps_command.specs.Meanings.{HasText}
 use Rattle.taps_command.specs.Runs.{Takes}
 use Rattle.taps_property.specs.declared.role.Role.TheVariants.{Initiate}
 use Rattle.taps_candidate.specs.Plan.{RankedPlan}
-use Rattle.taps_app.specs.FileSessions.{plan_in, plan_for, text_of}
+use Rattle.taps_session.specs.FileSessions.{plan_in, plan_for, text_of}
 use Rattle.taps_command.specs.declared.status.Status.{Status}
 
 -- FILE's bytes, where observable, have this meaning, and where the sink's bytes are observable too, what it took begins

@@ -11,7 +11,7 @@ use Rattle.taps_command.specs.Ready.{Ready}
 use Rattle.taps_command.specs.Runs.{Takes}
 use Rattle.taps_command.specs.declared.status.Status.{Status}
 use Rattle.taps_app.specs.Run.{run_rules}
-use Rattle.taps_app.specs.Roles.{IsRunOn}
+use Rattle.taps_session.specs.Roles.{IsRunOn}
 
 -- FILE's bytes, where observable, pass their checks; the calls on the sockets are a session of their role, over their
 -- plan; and where the sink's bytes are observable too, what it took is the log of that session

@@ -3,7 +3,7 @@ use Rattle.std.specs.Prelude.{◌≡◌, ℕ, Bool, true, false, List, map}
 use Rattle.taps_frame_text.specs.FrameLines.{frame_lines, are_all_spoken}
 use Rattle.taps_framer.specs.Layers.{Layer}
 use Rattle.taps_preconnection.specs.declared.message.MessageSpec.{MessageSpec}
-use Rattle.taps_command.specs.Checks.{FileRules, any_file, no_addresses}
+use Rattle.taps_command.specs.Checks.{FileRules, no_addresses}
 use Rattle.taps_command.specs.Meanings.{Meaning}
 use Rattle.taps_command.specs.OneFile.{one_file, LeavesAlone}
 use Rattle.taps_command.specs.Ready.{Ready}
@@ -11,9 +11,9 @@ use Rattle.taps_command.specs.Places.{chain_of}
 use Rattle.taps_command.specs.declared.status.Status.{Status}
 use Rattle.taps_command.specs.declared.status.Status.TheVariants.{Done, Exchange}
 
--- every FILE is supported, and no addresses are needed
+-- no addresses are needed
 abbrev pub frame_rules : FileRules
-frame_rules = record { supports = any_file; addresses = no_addresses }
+frame_rules = record { addresses = no_addresses }
 
 -- the bodies of messages
 abbrev pub bodies_of : List MessageSpec → List (List ℕ)

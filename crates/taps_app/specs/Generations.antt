@@ -12,7 +12,7 @@ use Rattle.taps_command.specs.Meanings.{HasText}
 use Rattle.taps_command.specs.Ready.{Ready}
 use Rattle.taps_command.specs.Runs.{Takes}
 use Rattle.taps_command.specs.declared.status.Status.{Status}
-use Rattle.taps_app.specs.Gen.{IsSummedUp}
+use Rattle.taps_app.specs.Gen.{IsSummedUpSession}
 use Rattle.taps_app.specs.Sim.{sim_rules}
 
 -- the file and the script that the number generates pass the checks of `sim`, and where the sink's bytes are
@@ -23,7 +23,7 @@ pub record IsGeneration (shelf : List Layer) (number : ℕ) (out out' : SinkStat
   pub lines : List Line
   pub script_passes : script_of (generated_script number) ≡ Ok lines
   pub text : List ℕ
-  pub summed_up : IsSummedUp shelf number ready lines text s
+  pub summed_up : IsSummedUpSession shelf number ready lines text s
   pub takes : Takes answers.Taken out out' text
 
 -- so it is for each status that has a text

@@ -1,16 +1,3 @@
-pub mod FileSessions
-pub mod FileMessages
-pub mod Sessions
-pub mod Observed
-pub mod SessionLogs
-pub mod Services
-pub mod Roles
-pub mod ScriptedSessions
-pub mod Session
-pub mod Raced
-pub mod RacedBehind
-pub mod Loops
-pub mod LoopParts
 pub mod Plan
 pub mod Sim
 pub mod Run

@@ -1,17 +1,17 @@
 -- `plan FILE` (local).
 use Rattle.std.specs.Prelude.{◌≡◌, ℕ, List}
 use Rattle.taps_framer.specs.Layers.{Layer}
-use Rattle.taps_command.specs.Checks.{FileRules, any_file, addresses_for}
-use Rattle.taps_app.specs.FileSessions.{initiated, text_of}
+use Rattle.taps_command.specs.Checks.{FileRules, addresses_for}
+use Rattle.taps_session.specs.FileSessions.{initiated, text_of}
 use Rattle.taps_command.specs.Meanings.{Meaning}
 use Rattle.taps_command.specs.OneFile.{one_file, LeavesAlone}
 use Rattle.taps_command.specs.Ready.{Ready}
 use Rattle.taps_command.specs.declared.status.Status.{Status}
 use Rattle.taps_command.specs.declared.status.Status.TheVariants.{Done}
 
--- every FILE is supported, and the addresses of its remotes are derived
+-- the addresses of its remotes are derived
 abbrev pub plan_rules : FileRules
-plan_rules = record { supports = any_file; addresses = addresses_for }
+plan_rules = record { addresses = addresses_for }
 
 -- the text of the plan
 abbrev pub PrintsPlan : Ready → List ℕ → Status → Type 0

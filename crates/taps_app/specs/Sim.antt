@@ -6,16 +6,16 @@ use Rattle.taps_script.specs.Scripts.{script_of}
 use Rattle.taps_script.specs.declared.line.Line.{Line}
 use Rattle.taps_text.specs.declared.refusal.Refusal.{Refusal}
 use Rattle.taps_text.specs.declared.refusal.Refusal.TheVariants as refusal
-use Rattle.taps_command.specs.Checks.{FileRules, has_one_member, addresses_for, first_file, second_file, most_bytes}
+use Rattle.taps_command.specs.Checks.{FileRules, addresses_for, first_file, second_file, most_bytes}
 use Rattle.taps_command.specs.Meanings.{Meaning}
-use Rattle.taps_app.specs.ScriptedSessions.{IsSimulated}
+use Rattle.taps_session.specs.ScriptedSessions.{IsSimulatedSession}
 use Rattle.taps_command.specs.declared.status.Status.{Status}
 use Rattle.taps_command.specs.declared.two_files.TwoFiles.{TwoFiles}
 use Rattle.taps_command.specs.declared.two_files.TwoFiles.TheVariants.{Nothing, File, Both}
 
--- FILE has no clones or priorities so far, and the addresses of its remotes are derived
+-- the addresses of its remotes are derived
 abbrev pub sim_rules : FileRules
-sim_rules = record { supports = has_one_member; addresses = addresses_for }
+sim_rules = record { addresses = addresses_for }
 
 -- the sockets of these lines before the first call, or the number of the first bad line
 abbrev pub or_bad_line : Result (List Line) ℕ → Result Scripted Refusal
@@ -30,7 +30,7 @@ scripted bytes = or_bad_line (script_of bytes)
 abbrev pub PrintsSimulation : List Layer → TwoFiles Scripted → List ℕ → Status → Type 0
 PrintsSimulation shelf Nothing text s = ⊥
 PrintsSimulation shelf (File ready) text s = ⊥
-PrintsSimulation shelf (Both ready sockets) text s = IsSimulated shelf ready sockets.lines text s
+PrintsSimulation shelf (Both ready sockets) text s = IsSimulatedSession shelf ready sockets.lines text s
 
 -- two files, of which the simulation is written; the sockets are not used
 abbrev pub sim : List Layer → Meaning

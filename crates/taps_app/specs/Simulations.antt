@@ -10,7 +10,7 @@ use Rattle.taps_command.specs.Checks.{checked, most_bytes}
 use Rattle.taps_command.specs.Meanings.{HasText}
 use Rattle.taps_command.specs.Ready.{Ready}
 use Rattle.taps_command.specs.Runs.{Takes}
-use Rattle.taps_app.specs.ScriptedSessions.{IsSimulated}
+use Rattle.taps_session.specs.ScriptedSessions.{IsSimulatedSession}
 use Rattle.taps_app.specs.Sim.{sim_rules}
 use Rattle.taps_command.specs.declared.status.Status.{Status}
 
@@ -29,7 +29,7 @@ pub record IsSimulation (shelf : List Layer) (contents : Contents)
   pub lines : List Line
   pub script_passes : script_of script_bytes ≡ Ok lines
   pub text : List ℕ
-  pub simulated : IsSimulated shelf ready lines text s
+  pub simulated : IsSimulatedSession shelf ready lines text s
   pub takes : Takes answers.Taken out out' text
 
 -- so it is for each status that has a text

@@ -8,14 +8,8 @@
 
 mod commands;
 mod framing;
-mod holding;
 mod kind;
-mod looping;
-mod messages;
 mod plan;
-mod serving;
-mod session;
-mod session_log;
 mod status;
 mod top;
 

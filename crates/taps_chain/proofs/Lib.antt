@@ -14,3 +14,4 @@ pub mod Firsts
 pub mod Exacts
 pub mod Joined
 pub mod UnderWay
+pub mod Kept

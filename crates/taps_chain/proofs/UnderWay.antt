@@ -106,21 +106,20 @@ module _ (fs : List Layer) (n : 0 < length fs) (w : AreFramers fs) (f : Layer) (
       pub taken_fits : p.taken + scanned ≤ p.fed
       taken_fits = omega (arith, held, h.taken)
 
-      pub one_more : (ns os : List (List ℕ)) → os ≡ ms → ns ≡ os ++ m ∷ [] → (q : Progress) → q.taken ≡ p.taken + scanned → q.index ≡ p.index + 1 → q.fed ≡ p.fed →
-          ((y : List ℕ) → HasLooked f scans q.index y q.look) → IsUnderWay fs f scans x ns q
-      one_more ns os o a q t i c l =
+      pub one_more : (q : Progress) → q.taken ≡ p.taken + scanned → q.index ≡ p.index + 1 → q.fed ≡ p.fed →
+          ((y : List ℕ) → HasLooked f scans q.index y q.look) → IsUnderWay fs f scans x (ms ++ m ∷ []) q
+      one_more q t i c l =
           let g : length (chained fs p.index m) ≡ scanned = omega (arith, ap length s, length-append (chained fs p.index m) (drop scanned (unread_of p x)), length-drop scanned (unread_of p x)) in
           let d : take scanned (unread_of p x) ≡ chained fs p.index m = take_front (chained fs p.index m) (drop scanned (unread_of p x)) (unread_of p x) scanned s (sym g) in
           let k : take scanned (drop p.taken x) ≡ chained fs p.index m = sym (take-take scanned (p.fed - p.taken) (drop p.taken x) (omega (arith, held))) ∙ d in
           let e : drop p.taken x ≡ chained fs p.index m ++ drop (p.taken + scanned) x =
           sym (take_drop scanned (drop p.taken x)) ∙ ap (λ (v : List ℕ). v ++ drop scanned (drop p.taken x)) k ∙ ap (λ (v : List ℕ). chained fs p.index m ++ v) (drop-drop scanned p.taken x) in
           let z : IsBegun fs 0 x (ms ++ m ∷ []) (drop (p.taken + scanned) x) = begun_more fs 0 p.index x ms (drop p.taken x) m (drop (p.taken + scanned) x) (omega (arith, h.index)) h.begun u e in
-          let j : ns ≡ ms ++ m ∷ [] = a ∙ ap (λ (v : List (List ℕ)). v ++ m ∷ []) o in
           record {
             came = omega (arith, h.came);
             taken = omega (arith, taken_fits);
-            begun = subst (λ (v : List (List ℕ)). IsBegun fs 0 x v (drop q.taken x)) (sym j) (subst (λ (v : ℕ). IsBegun fs 0 x (ms ++ m ∷ []) (drop v x)) (sym t) z);
-            index = omega (arith, i, h.index, ap length j, length-append ms (m ∷ []));
+            begun = subst (λ (v : ℕ). IsBegun fs 0 x (ms ++ m ∷ []) (drop v x)) (sym t) z;
+            index = omega (arith, i, h.index, length-append ms (m ∷ []));
             looked = l (unread_of q x);
           }
 

@@ -12,3 +12,4 @@ pub mod Counts
 pub mod Nexts
 pub mod Ears
 pub mod Hearings
+pub mod Kept

@@ -1,11 +1,12 @@
 ghost use Rattle.std.specs.Prelude.{◌≡◌, ◌+◌, ◌≤◌, ◌<◌, [], None, Some, length, slice_get, IfSome, IfOk};
+ghost use Rattle.taps_chain.specs.Kept.{HasKept};
 ghost use Rattle.taps_chain.specs.Layers.{layers_of};
 ghost use Rattle.taps_chain.specs.ChainLaws.{AreFramers};
 ghost use Rattle.taps_chain.specs.Hearings.{joined, IsHearingOf, IsUnderWay, Waits};
 
 use crate::next::{Found, next_uncounted};
 use crate::progress::Progress;
-use crate::{BadAt, Chain, Heard};
+use crate::{BadAt, Chain, Heard, MessageSink};
 use std::alloc::Global;
 use taps_base::{Body, List, NoMemory};
 use taps_framer::Framer;
@@ -36,14 +37,19 @@ pub fn hear_pieces(chain: Chain<'_>, pieces: &List<Body>, sink: &mut List<Body>)
 }
 
 /// Hears the messages of bytes that come in pieces of so many bytes, the last of which may be
-/// shorter.
-pub fn hear_bytes(chain: Chain<'_>, bytes: &[u8], piece: usize, sink: &mut List<Body>) -> Hearing
+/// shorter. The sink keeps each as soon as it is heard.
+pub fn hear_bytes<S: MessageSink>(
+    chain: Chain<'_>,
+    bytes: &[u8],
+    piece: usize,
+    sink: &mut S,
+) -> Hearing
     requires some { 0 < length (layers_of ⟦<dyn Framer as Framer>⟧ chain) }
-    requires empty { sink.old.items ≡ [] }
+    requires empty { S.Keeps sink.old [] }
     requires few { length bytes.now ≤ 4194304 }
     requires piece { 1 ≤ piece }
-    ensures { IsHearingOf (layers_of ⟦<dyn Framer as Framer>⟧ chain.entry)
-        bytes.now sink.new.items result.end result.rest }
+    ensures { HasKept (S.Keeps sink.new) (λ messages. IsHearingOf (layers_of ⟦<dyn Framer as Framer>⟧ chain.entry)
+        bytes.now messages result.end result.rest) }
 {
     chain.vouch_each();
     let first = chain.at(0);
@@ -90,35 +96,35 @@ fn hear_joined(chain: &Chain<'_>, bytes: &[u8], pieces: &[Body], sink: &mut List
 }
 
 // Hears all messages of the bytes that came, so many more now. It answers only where the hearing ends.
-fn hear_more(
+fn hear_more<S: MessageSink>(
     chain: &Chain<'_>,
     first: &Box<dyn Framer>,
     bytes: &[u8],
     more: usize,
     progress: &mut Progress,
-    sink: &mut List<Body>,
+    sink: &mut S,
 ) -> Option<Hearing>
     requires first { slice_get (layers_of ⟦<dyn Framer as Framer>⟧ chain.now) 0 ≡ Some (layer first.now) }
     requires framers { AreFramers (layers_of ⟦<dyn Framer as Framer>⟧ chain.now) }
     requires few { length bytes.now ≤ 4194304 }
     requires more { progress.old.fed + more ≤ length bytes.now }
-    requires heard { IsUnderWay (layers_of ⟦<dyn Framer as Framer>⟧ chain.now) (layer first.now) (scans first.now)
-        bytes.now sink.old.items progress.old }
+    requires heard { HasKept (S.Keeps sink.old) (λ messages. IsUnderWay (layers_of ⟦<dyn Framer as Framer>⟧ chain.now)
+        (layer first.now) (scans first.now) bytes.now messages progress.old) }
     ensures fed { progress.new.fed ≡ progress.old.fed + more }
-    ensures goes_on { result ≡ None → Waits (layers_of ⟦<dyn Framer as Framer>⟧ chain.now)
-        (layer first.now) (scans first.now) bytes.now sink.new.items progress.new }
-    ensures ends { IfSome result (λ hearing. IsHearingOf (layers_of ⟦<dyn Framer as Framer>⟧ chain.now)
-        bytes.now sink.new.items hearing.end hearing.rest) }
+    ensures goes_on { result ≡ None → HasKept (S.Keeps sink.new) (λ messages.
+        Waits (layers_of ⟦<dyn Framer as Framer>⟧ chain.now)
+        (layer first.now) (scans first.now) bytes.now messages progress.new) }
+    ensures ends { IfSome result (λ hearing. HasKept (S.Keeps sink.new) (λ messages.
+        IsHearingOf (layers_of ⟦<dyn Framer as Framer>⟧ chain.now) bytes.now messages hearing.end hearing.rest)) }
 {
     progress.fed += more;
     'messages: loop {
         let unread = &bytes[progress.taken..progress.fed];
         match next_uncounted(chain, first, progress.index, unread, &mut progress.look) {
             Found::Message(body) => {
-                if let Err(NoMemory) = sink.reserve(1) {
+                if let Err(NoMemory) = sink.keep(progress.index, body) {
                     return Some(out_of_memory());
                 }
-                sink.add(body);
                 progress.take_out(first);
             }
             Found::Need => return None,

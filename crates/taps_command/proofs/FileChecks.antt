@@ -9,7 +9,7 @@ use Rattle.taps_preconnection.specs.File.{preconnection_of}
 use Rattle.taps_table.specs.declared.pre_error.PreError.{PreError}
 use Rattle.taps_preconnection.specs.declared.preconnection.Preconnection.{Preconnection}
 use Rattle.taps_text.specs.declared.refusal.Refusal.{Refusal}
-use Rattle.taps_command.specs.Checks.{FileRules, or_refused, or_not_yet, at_most_32, addresses_for, addressed, shelved, readied, valued, checked}
+use Rattle.taps_command.specs.Checks.{FileRules, or_refused, at_most_32, addresses_for, addressed, shelved, valued, checked}
 use Rattle.taps_command.specs.Meanings.{Returns}
 use Rattle.taps_command.specs.Places.{places_on}
 use Rattle.taps_command.specs.Ready.{Ready}
@@ -17,10 +17,10 @@ use Rattle.taps_command.specs.declared.stop.Unready.{Unready}
 use Rattle.taps_command.specs.declared.stop.Unready.TheVariants as unready
 
 pub checked_on : (rules : FileRules) (shelf : List Layer) (bytes : List ℕ) (pre : Preconnection) (result : Result Ready Unready) → valued bytes ≡ Ok pre
-    → Returns (λ ready. ready) (readied rules shelf pre) result → Returns (λ ready. ready) (checked rules shelf bytes) result
+    → Returns (λ ready. ready) (shelved rules shelf pre) result → Returns (λ ready. ready) (checked rules shelf bytes) result
 unfolding checked
 checked_on rules shelf bytes pre result read returns =
-    let same : checked rules shelf bytes ≡ readied rules shelf pre = rw read refl in
+    let same : checked rules shelf bytes ≡ shelved rules shelf pre = rw read refl in
     subst (λ (outcome : Result Ready Refusal). Returns (λ (ready : Ready). ready) outcome result) (sym same) returns
 
 pub checked_not : (rules : FileRules) (shelf : List Layer) (bytes : List ℕ) (why : Refusal) → valued bytes ≡ Err why → checked rules shelf bytes ≡ Err why
@@ -58,10 +58,9 @@ derived_in pre addresses h = few_there (derived_addresses pre.hosts pre.remotes.
 -- the meaning and the addresses of a file that passes its checks, where addresses are derived
 pub file_meaning : (rules : FileRules) (shelf : List Layer) (bytes : List ℕ) (ready : Ready) → ((pre : Preconnection) → rules.addresses pre ≡ addresses_for pre) → checked rules shelf bytes ≡ Ok ready
     → (preconnection_of bytes ≡ Ok ready.pre) × (ready.addresses ≡ derived_addresses ready.pre.hosts ready.pre.remotes.items)
-unfolding checked valued readied shelved addressed
+unfolding checked valued shelved addressed
 file_meaning rules shelf bytes ready derives judged =
-    let (pre, read, checks) = both_ok (valued bytes) (λ pre. readied rules shelf pre) ready judged in
-    let (one, supported, more) = both_ok (or_not_yet (rules.supports pre)) (λ _. shelved rules shelf pre) ready checks in
+    let (pre, read, more) = both_ok (valued bytes) (λ pre. shelved rules shelf pre) ready judged in
     let (places, framers, rest) = both_ok (places_on shelf pre.framers.items) (λ places. addressed rules pre places) ready more in
     let (addresses, found, given) = both_ok (rules.addresses pre) (λ addresses. Ok (record { pre = pre; places = places; addresses = addresses })) ready rest in
     let made : record { pre = pre; places = places; addresses = addresses } ≡ ready = ok_same (record { pre = pre; places = places; addresses = addresses }) ready given in

@@ -1,6 +1,7 @@
 pub mod Judging
 pub mod Gathering
 pub mod FileChecks
+pub mod FileMembers
 pub mod Places
 pub mod Saying
 pub mod Causes

@@ -1,5 +1,5 @@
 -- The checks of the files in their order: what they give, or the first check that fails (local).
-use Rattle.std.specs.Prelude.{ℕ, zero, suc, ⊤, Bool, true, false, ◌&&◌, ◌==◌, List, [], Option, Some, None, Result, Ok, Err, length, nat_le, if◌then◌else◌}
+use Rattle.std.specs.Prelude.{ℕ, zero, suc, ⊤, Bool, true, false, List, [], Option, Some, None, Result, Ok, Err, length, nat_le, if◌then◌else◌}
 use Rattle.taps_base.specs.Results.{◌>>=◌}
 use Rattle.taps_endpoint.specs.declared.address.Address.{Address}
 use Rattle.taps_endpoint.specs.DerivedAddresses.{derived_addresses}
@@ -25,18 +25,9 @@ most_bytes = 1048576
 abbrev pub most_framed : ℕ
 most_framed = 4194304
 
--- what a command asks of FILE besides its format: which of them it supports, and the addresses that it needs
+-- what a command asks of FILE besides its format: the addresses that it needs
 pub record FileRules : Type 0 where
-  pub supports : Preconnection → Bool
   pub addresses : Preconnection → Result (List Address) Refusal
-
--- every FILE is supported
-abbrev pub any_file : Preconnection → Bool
-any_file pre = true
-
--- there is one member, and no priority is given to it
-abbrev pub has_one_member : Preconnection → Bool
-has_one_member pre = (pre.exchange.clones == 0) && (length pre.exchange.priorities.items == 0)
 
 -- the role is that of Initiate
 abbrev pub is_initiate : RunRole → Bool
@@ -66,11 +57,6 @@ or_refused (Err refused) = Err (refusal.File refused)
 unfoldable pub valued : List ℕ → Result Preconnection Refusal
 valued bytes = or_refused (preconnection_of bytes)
 
--- it is supported, or works not yet
-abbrev pub or_not_yet : Bool → Result (Unit {0}) Refusal
-or_not_yet true = Ok tt
-or_not_yet false = Err refusal.NotYet
-
 -- the addresses, where the framers stand at these places
 unfoldable pub addressed : FileRules → Preconnection → List ℕ → Result Ready Refusal
 addressed rules pre places =
@@ -80,13 +66,9 @@ addressed rules pre places =
 unfoldable pub shelved : FileRules → List Layer → Preconnection → Result Ready Refusal
 shelved rules shelf pre = places_on shelf pre.framers.items >>= λ places. addressed rules pre places
 
--- whether it is supported, and then the framers and the addresses
-unfoldable pub readied : FileRules → List Layer → Preconnection → Result Ready Refusal
-readied rules shelf pre = or_not_yet (rules.supports pre) >>= λ _. shelved rules shelf pre
-
 -- the checks of FILE, which is not too long
 unfoldable pub checked : FileRules → List Layer → List ℕ → Result Ready Refusal
-checked rules shelf bytes = valued bytes >>= λ pre. readied rules shelf pre
+checked rules shelf bytes = valued bytes >>= λ pre. shelved rules shelf pre
 
 -- what FILE gives, as the only file
 abbrev pub only_value : FileRules → List Layer → List ℕ → Result (Option Ready) Refusal

@@ -1,9 +1,10 @@
 ghost use Rattle.std.specs.Prelude.{◌≡◌, ◌≤◌, length, Ok, IfOk};
 ghost use Rattle.taps_preconnection.specs.Limits.{IsWithin};
 ghost use Rattle.taps_command.specs.Checks as checks;
-ghost use Rattle.taps_command.specs.Checks.{checked, valued, readied, shelved, addressed, or_not_yet, addresses_for};
+ghost use Rattle.taps_command.specs.Checks.{checked, valued, shelved, addressed, addresses_for};
 ghost use Rattle.taps_command.specs.Meanings.{Returns};
 ghost use Rattle.taps_command.specs.Places.{IsOnShelf};
+ghost use Rattle.taps_command.specs.Ready.{HasMembers};
 ghost use Rattle.taps_command.specs.Shelves.{layers_on};
 
 use crate::layers::Layers;
@@ -28,17 +29,13 @@ pub const MOST_FRAMED: u64 = 4_194_304;
 pub trait FileRules {
     ghost rules: { checks.FileRules };
 
-    /// Whether the command supports it.
-    fn supports(pre: &Preconnection) -> bool
-        ensures { result ≡ rules.supports pre.now };
-
     /// The addresses that the command needs.
     fn addresses(alloc: Global, pre: &Preconnection) -> Result<List<Address>, Unready>
         ensures returns { Returns (λ list. list.items) (rules.addresses pre.now) result }
         ensures few { IfOk result (λ list. length list.items ≤ 32) };
 }
 
-/// The checks of FILE: its format, whether it is supported, its framers, its addresses.
+/// The checks of FILE: its format, its framers, its addresses.
 #[tactic(auto, using(crate::proofs::FileChecks::checked_on, crate::proofs::FileChecks::checked_not))]
 pub fn check_file<R: FileRules, L: Layers>(
     alloc: Global,
@@ -50,7 +47,7 @@ pub fn check_file<R: FileRules, L: Layers>(
     ensures on_shelf { IfOk result (λ ready. IsOnShelf L.layers ready.places) }
 {
     match read_value(alloc, bytes) {
-        Ok(pre) => check_value::<R, L>(alloc, shelf, pre),
+        Ok(pre) => place::<R, L>(alloc, shelf, pre),
         Err(Unready::Refused(why)) => Err(Unready::Refused(why)),
         Err(Unready::NoMemory) => Err(Unready::NoMemory),
     }
@@ -61,37 +58,12 @@ pub fn check_file<R: FileRules, L: Layers>(
 fn read_value(alloc: Global, bytes: &[u8]) -> Result<Preconnection, Unready>
     ensures returns { Returns (λ pre. pre) (valued bytes.now) result }
     ensures within { IfOk result IsWithin }
+    ensures members { IfOk result HasMembers }
 {
     match read_preconnection(alloc, bytes) {
         Ok(pre) => Ok(pre),
         Err(PreError::NoMemory) => Err(Unready::NoMemory),
         Err(refused) => Err(Unready::Refused(Refusal::File(refused))),
-    }
-}
-
-// The checks after the format.
-#[tactic(auto, unfolding(crate::specs::Checks::readied))]
-fn check_value<R: FileRules, L: Layers>(
-    alloc: Global,
-    shelf: &Shelf<'_>,
-    pre: Preconnection,
-) -> Result<Ready, Unready>
-    requires shelf { layers_on ⟦<dyn Framer as Framer>⟧ shelf.now ≡ L.layers }
-    requires within { IsWithin pre }
-    ensures returns { Returns (λ ready. ready) (readied R.rules L.layers pre) result }
-    ensures on_shelf { IfOk result (λ ready. IsOnShelf L.layers ready.places) }
-{
-    support::<R>(&pre)?;
-    place::<R, L>(alloc, shelf, pre)
-}
-
-fn support<R: FileRules>(pre: &Preconnection) -> Result<(), Unready>
-    ensures { Returns (λ unit. unit) (or_not_yet (R.rules.supports pre.now)) result }
-{
-    if R::supports(pre) {
-        Ok(())
-    } else {
-        Err(Unready::Refused(Refusal::NotYet))
     }
 }
 
@@ -104,6 +76,7 @@ fn place<R: FileRules, L: Layers>(
 ) -> Result<Ready, Unready>
     requires shelf { layers_on ⟦<dyn Framer as Framer>⟧ shelf.now ≡ L.layers }
     requires within { IsWithin pre }
+    requires members { HasMembers pre }
     ensures returns { Returns (λ ready. ready) (shelved R.rules L.layers pre) result }
     ensures on_shelf { IfOk result (λ ready. IsOnShelf L.layers ready.places) }
 {
@@ -119,7 +92,8 @@ fn address<R: FileRules>(
     pre: Preconnection,
     places: Vec<usize>,
 ) -> Result<Ready, Unready>
-    requires { IsWithin pre }
+    requires within { IsWithin pre }
+    requires members { HasMembers pre }
     ensures returns { Returns (λ ready. ready) (addressed R.rules pre places.items) result }
     ensures places { IfOk result (λ ready. ready.places ≡ places.items) }
 {
@@ -129,14 +103,6 @@ fn address<R: FileRules>(
         places,
         addresses,
     })
-}
-
-/// Whether there is one member, to which no priority is given.
-pub fn has_one_member(pre: &Preconnection) -> bool
-    ensures { result ≡ checks.has_one_member pre.now }
-{
-    let exchange = &pre.exchange;
-    exchange.clones == 0 && exchange.priorities.len() == 0
 }
 
 /// Whether the role is that of Initiate.

@@ -1,5 +1,5 @@
 -- What comes of asking a socket once for bytes.
-use Rattle.std.specs.Prelude.{◌≡◌, ℕ, List, [], ◌∷◌, ◌++◌, Result, Ok, Err}
+use Rattle.std.specs.Prelude.{◌≡◌, ℕ, ◌+◌, ◌≤◌, List, [], ◌∷◌, ◌++◌, Result, Ok, Err}
 use Rattle.taps_base.specs.declared.no_memory.NoMemory.{NoMemory}
 use Rattle.taps_socket.specs.Calls.{Call, receives}
 use Rattle.taps_socket.specs.Net.{Net, after_receive, IsReceiveAnswer}
@@ -37,3 +37,12 @@ IsAsked Becomes before after net net' socket most until bytes (Ok answer) bytes'
     (bytes' ≡ grown_by answer came bytes))
 IsAsked Becomes before after net net' socket most until bytes (Err none) bytes' =
     HasNotAsked Becomes before after net net' × (bytes' ≡ bytes)
+
+-- The room for bytes to come after the socket was asked, or memory ran out before (local): bytes that came lower it by
+-- at most their number, and no other answer lowers it; where memory ran out it stays.
+abbrev pub IsRoomLeft : ℕ → Result RecvAnswer NoMemory → ℕ → Type 0
+IsRoomLeft room (Ok (recv.Got count at)) room' = room ≤ room' + count
+IsRoomLeft room (Ok recv.End) room' = room ≤ room'
+IsRoomLeft room (Ok (recv.Timed at)) room' = room ≤ room'
+IsRoomLeft room (Ok (recv.Failed cause)) room' = room ≤ room'
+IsRoomLeft room (Err none) room' = room' ≡ room

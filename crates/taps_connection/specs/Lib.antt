@@ -1,8 +1,10 @@
 pub mod Conditions
+pub mod Backlogs
 pub mod Unread
 pub mod Sources
 pub mod Asks
 pub mod Pulls
+pub mod Rooms
 pub mod Inboxes
 pub mod Receives
 pub mod Histories

@@ -81,7 +81,7 @@ abbrev pub framed_unread : {X : Type 0} {F : X → Type 0} → Framed X F → Un
 framed_unread f = framed_by (length f.piece.items) (state_of f.ears)
 
 abbrev pub plain_unread : Plain → Unread
-plain_unread p = plain (length p.piece.items) p.bytes.items p.given
+plain_unread p = plain (length p.piece.items) p.bytes.unread p.given
 
 abbrev pub datagrams_unread : Datagrams → Unread
 datagrams_unread d = datagrams (option_map (λ n. take n d.buffer.items) d.held) d.given

@@ -2,6 +2,7 @@
 //! framers, and each socket is closed once.
 #![tactic(auto)]
 
+mod backlog;
 mod connection;
 mod datagrams;
 mod encoding;
@@ -12,6 +13,7 @@ mod plain;
 mod pulled;
 mod receiver;
 mod receiving;
+mod room;
 mod sender;
 mod sending;
 mod state;

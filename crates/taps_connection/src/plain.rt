@@ -1,10 +1,10 @@
 // A stream with the empty chain, which is one message.
-ghost use Rattle.std.specs.Prelude.{◌≡◌, ◌≤◌, ◌<◌, ◌^◌, ◌+◌, ◌++◌, [], Bool, true, false, length, vec_len, vec_capacity, IfOk};
-ghost use Rattle.taps_connection.specs.Asks.{IsAsked};
+ghost use Rattle.std.specs.Prelude.{◌≡◌, ◌≤◌, ◌<◌, ◌^◌, [], true, false, length, IfOk, IsOk, OnOk, OnErr};
+ghost use Rattle.taps_connection.specs.Asks.{IsAsked, IsRoomLeft};
 ghost use Rattle.taps_socket.specs.Sides.{carries_stream, may_receive};
 
+use crate::backlog::Backlog;
 use std::alloc::Global;
-use std::mem;
 use taps_base::{Body, NoMemory};
 use taps_chain::{BadAt, Heard};
 use taps_socket::{RecvAnswer, Sockets};
@@ -16,10 +16,11 @@ const MOST: usize = 4_194_304;
 // bytes are asked for at once as it has.
 #[derive(Drop)]
 pub struct Plain {
-    bytes: Vec<u8>,
+    bytes: Backlog,
     piece: Vec<u8>,
     given: bool,
     ghost some: { 1 ≤ length piece.items },
+    ghost few: { length piece.items ≤ 65536 },
 }
 
 impl Plain {
@@ -28,12 +29,13 @@ impl Plain {
     ghost use Rattle.taps_connection.specs.Receives.{IsGivenOut};
 
     pub(crate) fn new(alloc: Global, piece: usize) -> Result<Plain, NoMemory>
-        requires { 1 ≤ piece }
+        requires some { 1 ≤ piece }
+        requires few { piece ≤ 65536 }
         ensures unread { IfOk result (λ p. plain_unread p ≡ plain piece [] false) }
     {
         let buffer = vec![in alloc; 0; piece]?;
         Ok(Plain {
-            bytes: Vec::new(alloc),
+            bytes: Backlog::new(alloc),
             piece: buffer,
             given: false,
         })
@@ -44,6 +46,25 @@ impl Plain {
         ensures { result ≡ count_given (plain_unread self.now) }
     {
         if self.given { 1 } else { 0 }
+    }
+
+    // How many bytes are asked for at once.
+    pub(crate) fn piece(&self) -> usize
+        ensures piece { result ≡ length self.now.piece.items }
+        ensures few { result ≤ 65536 }
+    {
+        self.piece.len()
+    }
+
+    // Makes room for bytes.
+    pub(crate) fn make_room(&mut self, bytes: usize) -> Result<(), NoMemory>
+        ensures ok { OnOk result (bytes ≤ self.new.bytes.room) }
+        ensures kept { self.old.bytes.room ≤ self.new.bytes.room }
+        ensures had { bytes ≤ self.old.bytes.room → IsOk result }
+        ensures err { OnErr result (self.new.bytes.room ≡ self.old.bytes.room) }
+        ensures unread { plain_unread self.new ≡ plain_unread self.old }
+    {
+        self.bytes.make_room(bytes)
     }
 
     // Asks the socket once for bytes.
@@ -60,6 +81,8 @@ impl Plain {
         requires until { until < 2 ^ 63 }
         ensures taken_in { IsTakenIn N.Becomes net.old net.new (N.net net.old) (N.net net.new) socket until
             (plain_unread self.old) result (plain_unread self.new) }
+        ensures memory { OnErr result (self.old.bytes.room < length self.old.piece.items) }
+        ensures room { IsRoomLeft self.old.bytes.room result self.new.bytes.room }
     {
         ask_for(net, socket, &mut self.bytes, &mut self.piece, until)
     }
@@ -80,36 +103,16 @@ impl Plain {
             return Heard::Need;
         }
         self.given = true;
-        Heard::Message(Body::from_vec(take_all(&mut self.bytes)))
+        Heard::Message(Body::from_vec(self.bytes.take_all()))
     }
 }
 
-// All the bytes, of which none stay.
-fn take_all(bytes: &mut Vec<u8>) -> Vec<u8>
-    ensures taken { result.items ≡ bytes.old.items }
-    ensures none { bytes.new.items ≡ [] }
-{
-    let alloc = *bytes.allocator();
-    mem::replace(bytes, Vec::new(alloc))
-}
-
-// Appends bytes for which there is room.
-fn append(bytes: &mut Vec<u8>, piece: &[u8])
-    requires { vec_len bytes.old + length piece.now ≤ vec_capacity bytes.old }
-    ensures { bytes.new.items ≡ bytes.old.items ++ piece.now }
-{
-    match bytes.extend_from_slice(piece) {
-        Ok(()) => {}
-        Err(_) => unreachable!(),
-    }
-}
-
-// Asks once for as many bytes as the piece has, for which it makes room before, and appends those
-// that come.
+// Asks once for as many bytes as the piece has, for which it makes room before where there is less,
+// and appends those that come.
 fn ask_for<N: Sockets>(
     net: &mut N,
     socket: u32,
-    bytes: &mut Vec<u8>,
+    bytes: &mut Backlog,
     piece: &mut [u8],
     until: u64,
 ) -> Result<RecvAnswer, NoMemory>
@@ -119,13 +122,15 @@ fn ask_for<N: Sockets>(
     requires spare { 1 ≤ (N.net net.old).spare }
     requires until { until < 2 ^ 63 }
     ensures asked { IsAsked N.Becomes net.old net.new (N.net net.old) (N.net net.new) socket (length piece.old) until
-        bytes.old.items result bytes.new.items }
+        bytes.old.unread result bytes.new.unread }
+    ensures memory { OnErr result (bytes.old.room < length piece.old) }
+    ensures room { IsRoomLeft bytes.old.room result bytes.new.room }
     ensures piece { length piece.new ≡ length piece.old }
 {
-    bytes.reserve(piece.len())?;
+    bytes.make_room(piece.len())?;
     let answer = net.recv(socket, piece, until);
     if let RecvAnswer::Got { count, .. } = answer {
-        append(bytes, &piece[..count]);
+        bytes.append(&piece[..count]);
     }
     Ok(answer)
 }

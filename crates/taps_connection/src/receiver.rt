@@ -1,5 +1,5 @@
 // What a connection keeps of its receiving.
-ghost use Rattle.std.specs.Prelude.{◌≡◌, ◌≤◌, ◌<◌, ◌^◌, ◌-◌, true, false, List, [], length, IfOk};
+ghost use Rattle.std.specs.Prelude.{◌≡◌, ◌≤◌, ◌<◌, ◌^◌, ◌-◌, true, false, List, [], length, IfOk, IsOk, OnOk, OnErr};
 ghost use Rattle.taps_framer.specs.Layers.{Layer};
 ghost use Rattle.taps_chain.specs.Layers.{layers_of};
 ghost use Rattle.taps_connection.specs.Unread.{first_unread, count_given, is_stream_of, IsWanting};
@@ -8,6 +8,8 @@ ghost use Rattle.taps_connection.specs.Histories.{Represents};
 ghost use Rattle.taps_connection.specs.Sources.{unread_of, IsSoundSource};
 ghost use Rattle.taps_connection.specs.Pulls.{IsTakenIn};
 ghost use Rattle.taps_connection.specs.Receives.{IsGivenOut};
+ghost use Rattle.taps_connection.specs.Asks.{IsRoomLeft};
+ghost use Rattle.taps_connection.specs.Rooms.{room_of, piece_of, LacksRoom};
 ghost use Rattle.taps_socket.specs.Sides.{carries_stream, may_receive};
 
 use crate::datagrams::Datagrams;
@@ -44,7 +46,8 @@ impl<'a> Receiver<'a> {
         chain: &Chain<'a>,
         piece: usize,
     ) -> Result<Receiver<'a>, NoMemory>
-        requires { 1 ≤ piece }
+        requires some { 1 ≤ piece }
+        requires few { piece ≤ 65536 }
         ensures unread { IfOk result (λ r. unread_of r.source ≡
             first_unread stack piece (length (layers_of ⟦<dyn Framer as Framer>⟧ chain.now))) }
         ensures ended { IfOk result (λ r. r.ended ≡ false) }
@@ -69,7 +72,8 @@ impl<'a> Source<'a> {
         chain: &Chain<'a>,
         piece: usize,
     ) -> Result<Source<'a>, NoMemory>
-        requires { 1 ≤ piece }
+        requires some { 1 ≤ piece }
+        requires few { piece ≤ 65536 }
         ensures unread { IfOk result (λ s. unread_of s ≡
             first_unread stack piece (length (layers_of ⟦<dyn Framer as Framer>⟧ chain.now))) }
         ensures sound { IfOk result (λ s. IsSoundSource ⟦<dyn Framer as Framer>⟧
@@ -95,6 +99,37 @@ impl<'a> Source<'a> {
         }
     }
 
+    // The greatest number of bytes that is asked for at once.
+    pub fn piece(&self) -> usize
+        ensures piece { result ≡ piece_of (unread_of self.now) }
+        ensures few { result ≤ 65536 }
+    {
+        match self {
+            Source::Framed(framed) => framed.piece(),
+            Source::Plain(plain) => plain.piece(),
+            Source::Datagrams(_) => 65_535,
+        }
+    }
+
+    // Makes room for bytes. For a datagram it is there.
+    pub fn make_room(&mut self, bytes: usize) -> Result<(), NoMemory>
+        requires few { bytes ≤ 65536 }
+        ensures ok { OnOk result (bytes ≤ room_of self.new) }
+        ensures kept { room_of self.old ≤ room_of self.new }
+        ensures had { bytes ≤ room_of self.old → IsOk result }
+        ensures err { OnErr result (room_of self.new ≡ room_of self.old) }
+        ensures unread { unread_of self.new ≡ unread_of self.old }
+        ensures sound { (fs : List Layer) →
+            IsSoundSource ⟦<dyn Framer as Framer>⟧ fs self.old →
+            IsSoundSource ⟦<dyn Framer as Framer>⟧ fs self.new }
+    {
+        match self {
+            Source::Framed(framed) => framed.make_room(bytes),
+            Source::Plain(plain) => plain.make_room(bytes),
+            Source::Datagrams(_) => Ok(()),
+        }
+    }
+
     // Asks the socket once for bytes. Where memory runs out the socket is not asked.
     pub fn ask<N: Sockets>(
         &mut self,
@@ -109,6 +144,8 @@ impl<'a> Source<'a> {
         requires until { until < 2 ^ 63 }
         ensures taken_in { IsTakenIn N.Becomes net.old net.new (N.net net.old) (N.net net.new) socket until
             (unread_of self.old) result (unread_of self.new) }
+        ensures memory { OnErr result (LacksRoom self.old) }
+        ensures room { IsRoomLeft (room_of self.old) result (room_of self.new) }
         ensures sound { (fs : List Layer) →
             IsSoundSource ⟦<dyn Framer as Framer>⟧ fs self.old →
             IsSoundSource ⟦<dyn Framer as Framer>⟧ fs self.new }

@@ -6,6 +6,7 @@ ghost use Rattle.taps_connection.specs.Conditions.{IsHeld};
 ghost use Rattle.taps_connection.specs.Histories.{Given, Represents, RepresentsRead, Decodes, given_by};
 ghost use Rattle.taps_connection.specs.Inboxes.{inbox_of, IsSoundReceiver, IsPulled, UnlessFailed, pulled_items, pulled_call};
 ghost use Rattle.taps_connection.specs.Receives.{IsGivenOut};
+ghost use Rattle.taps_connection.specs.Rooms.{room_of, LacksRoom, IsRoomAfter};
 ghost use Rattle.taps_connection.specs.Sources.{unread_of};
 ghost use Rattle.taps_connection.specs.Unread.{count_given, IsWanting};
 ghost use Rattle.taps_stack.specs.StackTable.{is_stream};
@@ -34,8 +35,9 @@ impl<'a, S: State> Connection<'a, S> {
 }
 
 impl<'a, S: Open> Connection<'a, S> {
-    /// Asks the socket once for bytes, up to a time in milliseconds, and takes in what comes. Where
-    /// memory runs out the socket is not asked.
+    /// Asks the socket once for bytes, up to a time in milliseconds, and takes in what comes. Memory is
+    /// taken only where there is less room than the bytes asked for, and where it runs out the socket is
+    /// not asked.
     pub fn drive_in<N: Sockets>(&mut self, net: &mut N, until: u64) -> Pulled
         requires wanting { IsWanting (unread_of self.old.receiver.source) }
         requires goes_on { self.old.receiver.ended ≡ false }
@@ -48,6 +50,10 @@ impl<'a, S: Open> Connection<'a, S> {
         ensures pulled { IsPulled N.Becomes net.old net.new (N.net net.old) (N.net net.new) self.old.socket until
             (inbox_of self.old.receiver self.old.sender.moment) result
             (inbox_of self.new.receiver self.new.sender.moment) }
+        ensures memory { result ≡ Pulled.NoMemory →
+            LacksRoom self.old.receiver.source × (N.net net.new ≡ N.net net.old) }
+        ensures room { IsRoomAfter (unread_of self.old.receiver.source) (room_of self.old.receiver.source) result
+            (unread_of self.new.receiver.source) (room_of self.new.receiver.source) }
         ensures sound { IsSoundReceiver ⟦<dyn Framer as Framer>⟧ self.old.stack
             (layers_of ⟦<dyn Framer as Framer>⟧ self.old.chain) self.new.receiver }
         ensures held { UnlessFailed result (IsHeld (N.net net.new).trace self.old.socket (is_stream self.old.stack)
@@ -108,6 +114,10 @@ impl<'a, S: Open> Connection<'a, S> {
         ensures pulled { IsPulled N.Becomes net.old net.new (N.net net.old) (N.net net.new) self.old.socket until
             (inbox_of self.old.receiver self.old.sender.moment) result
             (inbox_of self.new.receiver self.new.sender.moment) }
+        ensures memory { result ≡ Pulled.NoMemory →
+            LacksRoom self.old.receiver.source × (N.net net.new ≡ N.net net.old) }
+        ensures room { IsRoomAfter (unread_of self.old.receiver.source) (room_of self.old.receiver.source) result
+            (unread_of self.new.receiver.source) (room_of self.new.receiver.source) }
         ensures sound { IsSoundReceiver ⟦<dyn Framer as Framer>⟧ self.old.stack
             (layers_of ⟦<dyn Framer as Framer>⟧ self.old.chain) self.new.receiver }
         ensures held { UnlessFailed result (IsHeld (N.net net.new).trace self.old.socket (is_stream self.old.stack)

@@ -21,7 +21,7 @@ use taps_stack::Stack;
 // its socket; and how often its sending side is ended by them.
 type Row = (&'static [u8], Stack, bool, u64, &'static [Step], usize);
 
-const OUT: [Row; 8] = [
+static OUT: [Row; 8] = [
     // A final message ends the stream in the same call, and no other does.
     (
         b"leaf 0 completes 0",
@@ -178,7 +178,7 @@ const OUT: [Row; 8] = [
     ),
 ];
 
-const IN: [Row; 9] = [
+static IN: [Row; 9] = [
     // The messages of a stream, in any cutting; the rest is no message.
     (
         b"leaf 0 completes 0\ngive 2\npeer sends 5 00030001020000000100\npeer sends 9 0005\npeer ends 20",
@@ -325,6 +325,82 @@ const IN: [Row; 9] = [
         true,
         65536,
         &[Step::In(50, Pulled::Failed(Cause::Reset))],
+        0,
+    ),
+];
+
+// Room is made before, for more or fewer bytes than come, at any time; it changes nothing of what is heard.
+const ROOM: [Row; 4] = [
+    (
+        b"leaf 0 completes 0\ngive 2\npeer sends 5 0003000102\npeer ends 20",
+        Stack::Tcp,
+        true,
+        4096,
+        &[
+            Step::RoomFor(4096),
+            Step::RoomFor(4096),
+            Step::In(50, Pulled::Got),
+            Step::Room(0),
+            Step::Room(1),
+            Step::In(50, Pulled::Got),
+            Step::Room(65536),
+            Step::In(50, Pulled::Got),
+            Step::Room(65536),
+            Step::Hears(3),
+            Step::RoomFor(4096),
+            Step::In(50, Pulled::Ended),
+            Step::Room(65536),
+            Step::Needs,
+        ],
+        0,
+    ),
+    (
+        b"leaf 0 completes 0\npeer sends 5 000100",
+        Stack::Tcp,
+        true,
+        1,
+        &[
+            Step::RoomFor(1),
+            Step::In(50, Pulled::Got),
+            Step::RoomFor(1),
+            Step::In(50, Pulled::Got),
+            Step::RoomFor(1),
+            Step::In(50, Pulled::Got),
+            Step::Hears(1),
+        ],
+        0,
+    ),
+    (
+        b"leaf 0 completes 0\npeer sends 5 000102\npeer ends 9",
+        Stack::Tcp,
+        false,
+        65536,
+        &[
+            Step::RoomFor(65536),
+            Step::In(50, Pulled::Got),
+            Step::Room(3),
+            Step::Room(65536),
+            Step::In(50, Pulled::Ended),
+            Step::Hears(3),
+            Step::Room(65536),
+            Step::Needs,
+        ],
+        0,
+    ),
+    (
+        b"leaf 0 completes 0\npeer sends 5 000100\npeer sends 5 0005",
+        Stack::Udp,
+        true,
+        1,
+        &[
+            Step::RoomFor(65535),
+            Step::In(50, Pulled::Got),
+            Step::Room(65536),
+            Step::Hears(1),
+            Step::RoomFor(65535),
+            Step::In(50, Pulled::Got),
+            Step::Bad(1, 0, 2),
+        ],
         0,
     ),
 ];
@@ -503,9 +579,20 @@ fn messages_come_in(rt: HostRuntime) -> Result<(), Fail> {
     Ok(())
 }
 
+#[test]
+fn room_is_made_before(rt: HostRuntime) -> Result<(), Fail> {
+    let mut shelf: Vec<Box<dyn Framer>> = Vec::new(rt.alloc());
+    shelf.push(Box::new(rt.alloc(), Len16)?)?;
+    assert_eq!(rt; shelf.len(), 1);
+    for row in &ROOM {
+        take_row(&rt, rt.alloc(), &shelf, row)?;
+    }
+    Ok(())
+}
+
 // How many bytes are asked for at once of a stream with no layer, how often they come before it ends, how often they
 // are read first, and the calls behind these.
-const LONG: [(u64, usize, u64, &[Step]); 3] = [
+static LONG: [(u64, usize, u64, &[Step]); 3] = [
     // 4,194,304 bytes.
     (
         65536,

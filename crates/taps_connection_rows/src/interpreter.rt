@@ -24,6 +24,10 @@ pub enum Step {
     Out(u64, Pushed),
     /// More has to come; what then comes of driving in up to a time.
     In(u64, Pulled),
+    /// Room for so many bytes that are to come is made.
+    Room(u64),
+    /// Room for as many as a receive asks for is made, and that is so many.
+    RoomFor(u64),
     /// A message of so many bytes, which count from 0 to 250, is heard.
     Hears(usize),
     /// A message of so many bytes is heard.
@@ -92,6 +96,11 @@ pub fn take_step<N: Sockets, R: Abort>(
         }
         Step::Out(until, answer) => drive_out(rt, connection, net, ended, until, answer),
         Step::In(until, answer) => drive_in(rt, connection, net, ended, until, answer),
+        Step::Room(bytes) => make_room(rt, connection, net, ended, bytes),
+        Step::RoomFor(piece) => {
+            assert_eq!(rt; connection.piece(), piece);
+            make_room(rt, connection, net, ended, piece)
+        }
         Step::Hears(length) => hear(rt, connection, net, ended, Expected::Counted(length)),
         Step::HearsMuch(length) => hear(rt, connection, net, ended, Expected::Any(length)),
         Step::Needs => hear(rt, connection, net, ended, Expected::Need),
@@ -156,6 +165,28 @@ fn drive_out<N: Sockets, R: Abort>(
         Pushed::Failed(_) => stops(ended),
         _ => goes_on(ended),
     }
+}
+
+// Room for bytes that are to come is made.
+fn make_room<N: Sockets, R: Abort>(
+    rt: &R,
+    connection: &mut Connection<'_, Established>,
+    net: &mut N,
+    ended: bool,
+    bytes: u64,
+) -> Going
+    requires usable { IsUsable ⟦<dyn Framer as Framer>⟧ connection.old (N.net net.old) ended }
+    ensures opened { IsOpen connection.new (N.net net.new) }
+    ensures usable { result.goes_on ≡ true →
+        IsUsable ⟦<dyn Framer as Framer>⟧ connection.new (N.net net.new) result.ended }
+{
+    let _ = net;
+    if bytes > 65536 {
+        assert!(rt; false);
+        return stops(ended);
+    }
+    assert!(rt; connection.make_room_in(bytes).is_ok());
+    goes_on(ended)
 }
 
 // More has to come, and driving in comes to this answer.

@@ -5,7 +5,7 @@ use taps_base::Body;
 use taps_message::parts;
 
 // The length of a body, the most bytes of a part, and the lengths of its parts.
-const ROWS: [(usize, u64, &[usize]); 12] = [
+static ROWS: [(usize, u64, &[usize]); 12] = [
     (0, 1, &[0]),
     (0, 4, &[0]),
     (1, 1, &[1]),

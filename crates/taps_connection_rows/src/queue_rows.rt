@@ -8,7 +8,7 @@ use taps_message::{Message, PushError, Queued, SendQueue};
 type Pushes = (u64, usize, bool, Option<PushError>);
 
 // Each row begins with a new queue.
-const PUSHED: [&[Pushes]; 9] = [
+static PUSHED: [&[Pushes]; 9] = [
     // After a final message none is accepted, also no final one.
     &[
         (1, 1, false, None),
@@ -109,7 +109,7 @@ fn each_refusal_of_push(rt: HostRuntime) -> Result<(), Fail> {
 }
 
 // When a message was pushed, its lifetime, when the queue is asked, and whether it has expired then.
-const EXPIRED: [(u64, Option<u64>, u64, bool); 11] = [
+static EXPIRED: [(u64, Option<u64>, u64, bool); 11] = [
     (10, Some(50), 59, false),
     (10, Some(50), 60, true),
     (10, Some(50), 61, true),
@@ -159,7 +159,7 @@ fn a_message_expires_on_its_millisecond(rt: HostRuntime) -> Result<(), Fail> {
 type Turn = (u64, Option<u64>, Option<usize>, bool);
 
 // Each row begins with three messages of 1, 2 and 3 bytes, pushed at 100, 200 and 300 with a lifetime of 1,000.
-const TURNS: [&[Turn]; 4] = [
+static TURNS: [&[Turn]; 4] = [
     &[
         (300, Some(0), Some(1), false),
         (300, Some(1), Some(2), false),

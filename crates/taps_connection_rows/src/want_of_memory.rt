@@ -113,7 +113,35 @@ fn bring_out<N: Sockets, R: Abort>(
     }
 }
 
+// Whether room for the bytes that are asked for next can be made.
+fn has_room<N: Sockets>(connection: &mut Connection<'_, Established>, net: &N) -> bool
+    requires usable { IsUsable ⟦<dyn Framer as Framer>⟧ connection.old (N.net net.now) connection.old.receiver.ended }
+    requires wanting { IsWanting (unread_of connection.old.receiver.source) }
+    ensures usable { IsUsable ⟦<dyn Framer as Framer>⟧ connection.new (N.net net.now) connection.new.receiver.ended }
+    ensures wanting { IsWanting (unread_of connection.new.receiver.source) }
+{
+    let _ = net;
+    let piece = connection.piece();
+    connection.make_room_in(piece).is_ok()
+}
+
 fn ask<N: Sockets, R: Abort>(
+    rt: &R,
+    connection: &mut Connection<'_, Established>,
+    net: &mut N,
+) -> Came
+    requires usable { IsUsable ⟦<dyn Framer as Framer>⟧ connection.old (N.net net.old) connection.old.receiver.ended }
+    requires wanting { IsWanting (unread_of connection.old.receiver.source) }
+    ensures usable { IsUsable ⟦<dyn Framer as Framer>⟧ connection.new (N.net net.new) connection.new.receiver.ended }
+{
+    if !has_room(connection, net) {
+        return Came::NoMemory;
+    }
+    pull(rt, connection, net)
+}
+
+// Asks once, where room was made before.
+fn pull<N: Sockets, R: Abort>(
     rt: &R,
     connection: &mut Connection<'_, Established>,
     net: &mut N,
@@ -129,7 +157,7 @@ fn ask<N: Sockets, R: Abort>(
     match connection.drive_in(net, UNTIL) {
         Pulled::Got => Came::More,
         Pulled::Ended => Came::More,
-        Pulled::NoMemory => Came::NoMemory,
+        // Memory does not run out where room was made before.
         _ => {
             assert!(rt; false);
             Came::NoMemory

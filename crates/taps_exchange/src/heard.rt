@@ -14,6 +14,7 @@ ghost use Rattle.taps_exchange.specs.Decodings.{Decoding, decoding_of};
 ghost use Rattle.taps_exchange.specs.Hearings.{Fits, HasHeard, HasStepped, IsLacking, IfAllHeard, IfGoesOn, IsCloser, one_unless};
 
 use crate::Outcome;
+use crate::asking::ask_once;
 use taps_base::{Body, NoMemory};
 use taps_chain::Heard;
 use taps_connection::{Connection, Open, Pulled};
@@ -177,7 +178,7 @@ fn ask_next<N: Sockets, S: Open>(
     if connection.has_ended() {
         return Ok(Step::Over(Outcome::PeerEnded));
     }
-    match connection.drive_in(net, until) {
+    match ask_once(connection, until, net) {
         Pulled::Got => Ok(Step::More),
         Pulled::Ended => Ok(Step::More),
         Pulled::Timed(_) => Ok(Step::Over(Outcome::Timed)),

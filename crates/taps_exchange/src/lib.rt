@@ -5,6 +5,7 @@
 #![tactic(auto)]
 
 mod accepted;
+mod asking;
 mod exchanged;
 mod heard;
 mod laws;
@@ -13,6 +14,7 @@ mod sent;
 mod worked;
 
 pub use accepted::accept_all;
+pub use asking::ask_once;
 pub use exchanged::{Exchanged, exchange, exchange_over};
 pub use heard::hear_until;
 pub use laws::{vouch_accepting, vouch_alone, vouch_hearing, vouch_outcomes, vouch_unique};

@@ -34,7 +34,7 @@ struct Row {
     heard: &'static [usize],
 }
 
-const ROWS: [Row; 14] = [
+static ROWS: [Row; 14] = [
     Row {
         script: b"leaf 0 completes 0\npeer echo",
         stack: Stack::Tcp,

@@ -1,6 +1,7 @@
 ghost use Rattle.std.specs.Prelude.{◌≡◌, ◌≤◌, true, length};
 
-use std::alloc::Global;
+use std::alloc::{AllocError, Global};
+use std::process::Abort;
 use std::test::Fail;
 use taps_base::NoMemory;
 use taps_framer::{
@@ -119,59 +120,110 @@ fn is_seen_alike(framer: &Box<dyn Framer>, index: u64, buffer: &[u8]) -> bool {
     true
 }
 
+// The place of a framer, an index, some bytes, and what it sees at their front.
+static SEEN: [(usize, u64, &[u8], Sight); 23] = [
+    (LEN16, 0, b"\0", Sight::Need),
+    (LEN32, 0, b"\0\x10\0\x01", Sight::Bad { place: 3 }),
+    (LEN32, 0, b"\0\x10\x01", Sight::Bad { place: 2 }),
+    (LEN32, 0, b"\0\x11", Sight::Bad { place: 1 }),
+    (LEN32, 0, b"\x01\x11", Sight::Bad { place: 0 }),
+    (VARINT, 0, b"\x40\x40", Sight::Need),
+    (VARINT, 0, b"\x40\x3f", Sight::Bad { place: 1 }),
+    (VARINT, 0, b"\x80\0", Sight::Need),
+    (VARINT, 0, b"\x80\0\x3f", Sight::Bad { place: 2 }),
+    (VARINT, 0, b"\x80\0\x40", Sight::Need),
+    (VARINT, 0, b"\x80\x10\0\x01", Sight::Bad { place: 3 }),
+    (VARINT, 0, b"\xc0", Sight::Bad { place: 0 }),
+    (NETSTRING, 0, b"01:a,", Sight::Bad { place: 1 }),
+    (NETSTRING, 0, b"65536:", Sight::Bad { place: 4 }),
+    (NETSTRING, 0, b"1:ab", Sight::Bad { place: 3 }),
+    (NETSTRING, 0, b":", Sight::Bad { place: 0 }),
+    (COUNTED, 0, b"0", Sight::Bad { place: 0 }),
+    (COUNTED, 0, b"65536 ", Sight::Bad { place: 4 }),
+    (COUNTED, 0, b"1:", Sight::Bad { place: 1 }),
+    (STUFFED, 0, b"\xc0", Sight::Whole { used: 1 }),
+    (STUFFED, 0, b"\xdb\x01", Sight::Bad { place: 1 }),
+    (TAG, 0, b"\x4e", Sight::Bad { place: 0 }),
+    (SEQ, 1, b"\0\0\0\0\0\0\0\0", Sight::Bad { place: 7 }),
+];
+
+fn sees(
+    rt: &impl Abort,
+    framer: &Box<dyn Framer>,
+    (place, index, bytes, sight): &(usize, u64, &[u8], Sight),
+) {
+    assert_eq!(rt;
+        read_in(framer, *index, bytes),
+        *sight,
+        "{place} at {bytes:?}"
+    );
+    assert!(rt; is_seen_alike(framer, *index, bytes), "{place}");
+}
+
 #[test]
 fn sees_what_stands_there(rt: HostRuntime) -> Result<(), Fail> {
     let mut shelf = Vec::new(rt.alloc());
     fill(rt.alloc(), &mut shelf)?;
-    let rows = [
-        (LEN16, 0, b"\0".as_slice(), Sight::Need),
-        (
-            LEN32,
-            0,
-            b"\0\x10\0\x01".as_slice(),
-            Sight::Bad { place: 3 },
-        ),
-        (LEN32, 0, b"\0\x10\x01".as_slice(), Sight::Bad { place: 2 }),
-        (LEN32, 0, b"\0\x11".as_slice(), Sight::Bad { place: 1 }),
-        (LEN32, 0, b"\x01\x11".as_slice(), Sight::Bad { place: 0 }),
-        (VARINT, 0, b"\x40\x40".as_slice(), Sight::Need),
-        (VARINT, 0, b"\x40\x3f".as_slice(), Sight::Bad { place: 1 }),
-        (VARINT, 0, b"\x80\0".as_slice(), Sight::Need),
-        (VARINT, 0, b"\x80\0\x3f".as_slice(), Sight::Bad { place: 2 }),
-        (VARINT, 0, b"\x80\0\x40".as_slice(), Sight::Need),
-        (
-            VARINT,
-            0,
-            b"\x80\x10\0\x01".as_slice(),
-            Sight::Bad { place: 3 },
-        ),
-        (VARINT, 0, b"\xc0".as_slice(), Sight::Bad { place: 0 }),
-        (NETSTRING, 0, b"01:a,".as_slice(), Sight::Bad { place: 1 }),
-        (NETSTRING, 0, b"65536:".as_slice(), Sight::Bad { place: 4 }),
-        (NETSTRING, 0, b"1:ab".as_slice(), Sight::Bad { place: 3 }),
-        (NETSTRING, 0, b":".as_slice(), Sight::Bad { place: 0 }),
-        (COUNTED, 0, b"0".as_slice(), Sight::Bad { place: 0 }),
-        (COUNTED, 0, b"65536 ".as_slice(), Sight::Bad { place: 4 }),
-        (COUNTED, 0, b"1:".as_slice(), Sight::Bad { place: 1 }),
-        (STUFFED, 0, b"\xc0".as_slice(), Sight::Whole { used: 1 }),
-        (STUFFED, 0, b"\xdb\x01".as_slice(), Sight::Bad { place: 1 }),
-        (TAG, 0, b"\x4e".as_slice(), Sight::Bad { place: 0 }),
-        (
-            SEQ,
-            1,
-            b"\0\0\0\0\0\0\0\0".as_slice(),
-            Sight::Bad { place: 7 },
-        ),
-    ];
-    for (place, index, bytes, wanted) in rows {
-        let framer = shelf.get(place).ok_or("a framer")?;
-        assert_eq!(rt;
-            read_in(framer, index, bytes),
-            wanted,
-            "{place} at {bytes:?}"
-        );
-        assert!(rt; is_seen_alike(framer, index, bytes), "{place}");
+    for row in &SEEN {
+        sees(&rt, shelf.get(row.0).ok_or("a framer")?, row);
     }
+    Ok(())
+}
+
+// The place of a framer, its name, an index, a body, and its frame.
+static FRAMED: [(usize, &str, u64, &[u8], &[u8]); 11] = [
+    (LEN16, "len16", 0, b"hi", b"\0\x02hi"),
+    (LEN32, "len32", 0, b"hi", b"\0\0\0\x02hi"),
+    (VARINT, "varint", 0, b"hi", b"\x02hi"),
+    (NETSTRING, "netstring", 0, b"hi", b"2:hi,"),
+    (NETSTRING, "netstring", 0, b"", b"0:,"),
+    (COUNTED, "counted", 0, b"hi", b"2 hi"),
+    (LINE, "line", 0, b"hi", b"hi\n"),
+    (LINE, "line", 0, b"", b"\n"),
+    (
+        STUFFED,
+        "stuffed",
+        0,
+        b"\xdbh\xc0",
+        b"\xdb\xddh\xdb\xdc\xc0",
+    ),
+    (TAG, "tag", 0, b"hi", b"\x4d\0\x02hi"),
+    (SEQ, "seq", 258, b"hi", b"\0\0\0\0\0\0\x01\x02\0\0\0\x02hi"),
+];
+
+// The body is framed so, and comes back.
+fn frames(
+    rt: &impl Abort,
+    alloc: Global,
+    framer: &Box<dyn Framer>,
+    (_, name, index, body, wanted): &(usize, &str, u64, &[u8], &[u8]),
+) -> Result<(), NoMemory> {
+    assert_eq!(rt; name_in(framer), *name);
+    assert!(rt; speaks_in(framer, body), "{name}");
+    let (frame, again) = there_and_back(alloc, framer, *index, body)?;
+    assert_eq!(rt; frame.as_slice(), *wanted, "{name}");
+    assert_eq!(rt; again.as_slice(), *body, "{name}");
+    Ok(())
+}
+
+// The frame is seen whole, with a byte behind it and without, and each shorter one is waited for.
+fn is_whole(
+    rt: &impl Abort,
+    alloc: Global,
+    framer: &Box<dyn Framer>,
+    (_, name, index, _, frame): &(usize, &str, u64, &[u8], &[u8]),
+) -> Result<(), AllocError> {
+    let used = frame.len();
+    let mut longer = Vec::from_slice(alloc, frame)?;
+    longer.push(255)?;
+    assert!(rt; waits_at_each_cut(framer, *index, frame), "{name}");
+    assert_eq!(rt;
+        read_in(framer, *index, &longer),
+        Sight::Whole { used },
+        "{name}"
+    );
+    assert!(rt; is_seen_alike(framer, *index, frame), "{name}");
+    assert!(rt; is_seen_alike(framer, *index, &longer), "{name}");
     Ok(())
 }
 
@@ -179,64 +231,57 @@ fn sees_what_stands_there(rt: HostRuntime) -> Result<(), Fail> {
 fn frames_and_opens(rt: HostRuntime) -> Result<(), Fail> {
     let mut shelf = Vec::new(rt.alloc());
     fill(rt.alloc(), &mut shelf)?;
-    let rows = [
-        (LEN16, "len16", 0, b"hi".as_slice(), b"\0\x02hi".as_slice()),
-        (
-            LEN32,
-            "len32",
-            0,
-            b"hi".as_slice(),
-            b"\0\0\0\x02hi".as_slice(),
-        ),
-        (VARINT, "varint", 0, b"hi".as_slice(), b"\x02hi".as_slice()),
-        (
-            NETSTRING,
-            "netstring",
-            0,
-            b"hi".as_slice(),
-            b"2:hi,".as_slice(),
-        ),
-        (NETSTRING, "netstring", 0, b"".as_slice(), b"0:,".as_slice()),
-        (COUNTED, "counted", 0, b"hi".as_slice(), b"2 hi".as_slice()),
-        (LINE, "line", 0, b"hi".as_slice(), b"hi\n".as_slice()),
-        (LINE, "line", 0, b"".as_slice(), b"\n".as_slice()),
-        (
-            STUFFED,
-            "stuffed",
-            0,
-            b"\xdbh\xc0".as_slice(),
-            b"\xdb\xddh\xdb\xdc\xc0".as_slice(),
-        ),
-        (TAG, "tag", 0, b"hi".as_slice(), b"\x4d\0\x02hi".as_slice()),
-        (
-            SEQ,
-            "seq",
-            258,
-            b"hi".as_slice(),
-            b"\0\0\0\0\0\0\x01\x02\0\0\0\x02hi".as_slice(),
-        ),
-    ];
-    for (place, name, index, body, wanted) in rows {
-        let framer = shelf.get(place).ok_or("a framer")?;
-        assert_eq!(rt; name_in(framer), name);
-        assert!(rt; speaks_in(framer, body), "{place}");
-        let (frame, again) = there_and_back(rt.alloc(), framer, index, body)
-            .ok()
-            .ok_or("memory")?;
-        assert_eq!(rt; frame.as_slice(), wanted, "{place}");
-        assert_eq!(rt; again.as_slice(), body, "{place}");
-        assert!(rt; waits_at_each_cut(framer, index, &frame), "{place}");
-        let mut longer = Vec::from_slice(rt.alloc(), wanted)?;
-        longer.push(255)?;
-        let used = wanted.len();
-        assert_eq!(rt;
-            read_in(framer, index, &longer),
-            Sight::Whole { used },
-            "{place}"
-        );
-        assert!(rt; is_seen_alike(framer, index, &frame), "{place}");
-        assert!(rt; is_seen_alike(framer, index, &longer), "{place}");
+    for row in &FRAMED {
+        let framer = shelf.get(row.0).ok_or("a framer")?;
+        frames(&rt, rt.alloc(), framer, row)?;
+        is_whole(&rt, rt.alloc(), framer, row)?;
     }
+    Ok(())
+}
+
+// The place of a framer, whether it speaks no bytes, the most that it speaks, and the length of their frame.
+static LIMITS: [(usize, bool, usize, usize); 9] = [
+    (LEN16, true, 65_535, 65_537),
+    (LEN32, true, 1_048_576, 1_048_580),
+    (VARINT, true, 1_048_576, 1_048_580),
+    (NETSTRING, true, 65_535, 65_542),
+    (COUNTED, false, 65_535, 65_541),
+    (LINE, true, 65_535, 65_536),
+    (STUFFED, true, 65_535, 65_536),
+    (TAG, true, 65_535, 65_538),
+    (SEQ, true, 1_048_576, 1_048_588),
+];
+
+fn keeps(
+    rt: &impl Abort,
+    alloc: Global,
+    framer: &Box<dyn Framer>,
+    (place, speaks_nothing, most, length): &(usize, bool, usize, usize),
+) -> Result<(), Fail> {
+    assert_eq!(rt; speaks_in(framer, b""), *speaks_nothing, "{place}");
+    let mut body = vec![in alloc; b'a'; *most]?;
+    speaks_at_length(rt, alloc, framer, &body, *length)?;
+    body.push(b'a')?;
+    assert!(rt; !speaks_in(framer, &body), "{place}");
+    Ok(())
+}
+
+// The body is spoken, in a frame of this length.
+fn speaks_at_length(
+    rt: &impl Abort,
+    alloc: Global,
+    framer: &Box<dyn Framer>,
+    body: &[u8],
+    length: usize,
+) -> Result<(), NoMemory> {
+    assert!(rt; speaks_in(framer, body), "{length}");
+    let (frame, again) = there_and_back(alloc, framer, 7, body)?;
+    assert_eq!(rt;
+        read_in(framer, 7, &frame),
+        Sight::Whole { used: length },
+        "{length}"
+    );
+    assert!(rt; again.as_slice() == body, "{length}");
     Ok(())
 }
 
@@ -244,59 +289,82 @@ fn frames_and_opens(rt: HostRuntime) -> Result<(), Fail> {
 fn keeps_its_limits(rt: HostRuntime) -> Result<(), Fail> {
     let mut shelf = Vec::new(rt.alloc());
     fill(rt.alloc(), &mut shelf)?;
-    let rows = [
-        (LEN16, true, 65_535, 65_537),
-        (LEN32, true, 1_048_576, 1_048_580),
-        (VARINT, true, 1_048_576, 1_048_580),
-        (NETSTRING, true, 65_535, 65_542),
-        (COUNTED, false, 65_535, 65_541),
-        (LINE, true, 65_535, 65_536),
-        (STUFFED, true, 65_535, 65_536),
-        (TAG, true, 65_535, 65_538),
-        (SEQ, true, 1_048_576, 1_048_588),
-    ];
-    for (place, speaks_nothing, most, length) in rows {
-        let framer = shelf.get(place).ok_or("a framer")?;
-        assert_eq!(rt; speaks_in(framer, b""), speaks_nothing, "{place}");
-        let mut body = vec![in rt.alloc(); b'a'; most]?;
-        assert!(rt; speaks_in(framer, &body), "{place}");
-        let (frame, again) = there_and_back(rt.alloc(), framer, 7, &body)
-            .ok()
-            .ok_or("memory")?;
-        assert_eq!(rt;
-            read_in(framer, 7, &frame),
-            Sight::Whole { used: length },
-            "{place}"
-        );
-        assert!(rt; again == body, "{place}");
-        body.push(b'a')?;
-        assert!(rt; !speaks_in(framer, &body), "{place}");
+    for row in &LIMITS {
+        let framer = shelf.get(row.0).ok_or("a framer")?;
+        keeps(&rt, rt.alloc(), framer, row)?;
     }
     Ok(())
 }
+
+// The place of a framer, how many bytes it looks at, which of them are no `a`, and what it sees.
+static LONG: [(usize, usize, &[(usize, u8)], Sight); 8] = [
+    (LINE, 65_535, &[], Sight::Need),
+    (STUFFED, 65_535, &[], Sight::Need),
+    (LINE, 65_536, &[(65_535, 219)], Sight::Bad { place: 65_535 }),
+    (
+        STUFFED,
+        65_536,
+        &[(65_535, 219)],
+        Sight::Bad { place: 65_535 },
+    ),
+    (
+        STUFFED,
+        65_536,
+        &[(0, 219), (1, 221), (65_535, 219)],
+        Sight::Need,
+    ),
+    (
+        STUFFED,
+        65_537,
+        &[(0, 219), (1, 221), (65_535, 219), (65_536, 219)],
+        Sight::Bad { place: 65_536 },
+    ),
+    (
+        STUFFED,
+        65_538,
+        &[(0, 219), (1, 221), (65_535, 219), (65_536, 220)],
+        Sight::Bad { place: 65_537 },
+    ),
+    (
+        STUFFED,
+        65_538,
+        &[
+            (0, 219),
+            (1, 221),
+            (65_535, 219),
+            (65_536, 220),
+            (65_537, 192),
+        ],
+        Sight::Whole { used: 65_538 },
+    ),
+];
 
 #[test]
 fn sees_where_a_long_body_goes_wrong(rt: HostRuntime) -> Result<(), Fail> {
     let mut shelf = Vec::new(rt.alloc());
     fill(rt.alloc(), &mut shelf)?;
-    let line = shelf.get(LINE).ok_or("a framer")?;
-    let stuffed = shelf.get(STUFFED).ok_or("a framer")?;
-    let mut bytes = vec![in rt.alloc(); b'a'; 65_535]?;
-    assert!(rt; !speaks_in(line, b"a\nb"));
-    assert_eq!(rt; read_in(line, 0, &bytes), Sight::Need);
-    assert_eq!(rt; read_in(stuffed, 0, &bytes), Sight::Need);
-    bytes.push(219)?;
-    assert_eq!(rt; read_in(line, 0, &bytes), Sight::Bad { place: 65_535 });
-    assert_eq!(rt; read_in(stuffed, 0, &bytes), Sight::Bad { place: 65_535 });
-    bytes[0] = 219;
-    bytes[1] = 221;
-    assert_eq!(rt; read_in(stuffed, 0, &bytes), Sight::Need);
-    bytes.push(219)?;
-    assert_eq!(rt; read_in(stuffed, 0, &bytes), Sight::Bad { place: 65_536 });
-    bytes[65_536] = 220;
-    bytes.push(b'a')?;
-    assert_eq!(rt; read_in(stuffed, 0, &bytes), Sight::Bad { place: 65_537 });
-    bytes[65_537] = 192;
-    assert_eq!(rt; read_in(stuffed, 0, &bytes), Sight::Whole { used: 65_538 });
+    for (place, length, others, sight) in &LONG {
+        let framer = shelf.get(*place).ok_or("a framer")?;
+        assert!(rt; !speaks_in(framer, b"a\nb") || *place != LINE);
+        looks_at(&rt, rt.alloc(), framer, *length, others, *sight)?;
+    }
+    Ok(())
+}
+
+fn looks_at(
+    rt: &impl Abort,
+    alloc: Global,
+    framer: &Box<dyn Framer>,
+    length: usize,
+    others: &[(usize, u8)],
+    sight: Sight,
+) -> Result<(), AllocError> {
+    let mut bytes = vec![in alloc; b'a'; length]?;
+    for (place, other) in others {
+        if let Some(byte) = bytes.get_mut(*place) {
+            *byte = *other;
+        }
+    }
+    assert_eq!(rt; read_in(framer, 0, &bytes), sight, "{length}");
     Ok(())
 }

@@ -10,6 +10,8 @@ mod ears_rows;
 mod framer_rows;
 #[cfg(test)]
 mod hearing_rows;
+#[cfg(test)]
+mod hostile_rows;
 mod pair;
 mod short;
 

@@ -50,9 +50,9 @@ heard_as fs x text whole ms (heard.Bad b) n some w few g ended t a = record {
 heard_as fs x text whole ms heard.NoMemory n some w few g ended t a = absurd ended
 
 -- where a text was made, the bytes are heard as it says
-pub heard_text : (fs : List Layer) (x : List ℕ) (ms : List (List ℕ)) (h : Heard) (n : ℕ) (made : Result FrameText NoMemory) → 0 < length fs → IsLawfulChain fs → length x ≤ 4194304 → IsHearingOf fs x ms h n → OnOk made (HasEnded h) → IfOk made (λ framed. framed.text.items ≡ message_lines 0 ms ++ ended_line h n) → IfOk made (λ framed. framed.whole ≡ has_ended_whole h n) → IfOk made (λ framed. IsHeardAs fs x framed.text.items framed.whole)
-heard_text fs x ms h n (Ok framed) some w few g ended t a = heard_as fs x framed.text.items framed.whole ms h n some w few g ended t a
-heard_text fs x ms h n (Err e) some w few g ended t a = tt
+pub heard_text : (fs : List Layer) (x lines : List ℕ) (ms : List (List ℕ)) (h : Heard) (n : ℕ) (made : Result FrameText NoMemory) → 0 < length fs → IsLawfulChain fs → length x ≤ 4194304 → lines ≡ message_lines 0 ms → IsHearingOf fs x ms h n → OnOk made (HasEnded h) → IfOk made (λ framed. framed.text.items ≡ lines ++ ended_line h n) → IfOk made (λ framed. framed.whole ≡ has_ended_whole h n) → IfOk made (λ framed. IsHeardAs fs x framed.text.items framed.whole)
+heard_text fs x lines ms h n (Ok framed) some w few l g ended t a = heard_as fs x framed.text.items framed.whole ms h n some w few g ended (t ∙ ap (λ (v : List ℕ). v ++ ended_line h n) l) a
+heard_text fs x lines ms h n (Err e) some w few l g ended t a = tt
 
 -- through no layer bytes are one message
 pub unframed_none : (fs : List Layer) (x text : List ℕ) (whole : Bool) → length fs ≡ 0 → IsOneMessage x text whole → IsUnframed fs x text whole

@@ -2,6 +2,7 @@
 #![tactic(auto)]
 
 mod frame;
+mod message_lines;
 #[cfg(test)]
 mod tests;
 mod text;

@@ -1,13 +1,14 @@
 ghost use Rattle.std.specs.Prelude.{◌≡◌, ◌<◌, ◌≤◌, ◌++◌, length, IfOk, OnOk};
 ghost use Rattle.taps_chain.specs.Layers.{layers_of};
 ghost use Rattle.taps_frame_text.specs.HearingEnds.{ended_line, has_ended_whole, HasEnded, IsEnd};
-ghost use Rattle.taps_frame_text.specs.UnframeLines.{message_lines, IsHeardAs, IsUnframed, IsOneMessage};
+ghost use Rattle.taps_frame_text.specs.UnframeLines.{IsHeardAs, IsUnframed, IsOneMessage};
 ghost use Rattle.taps_text.specs.OutcomeLines.{outcome_line};
 ghost use Rattle.taps_text.specs.declared.outcome.Outcome.TheVariants.{BadFrame};
 
 use crate::FrameText;
+use crate::message_lines::MessageLines;
 use std::alloc::Global;
-use taps_base::{Body, List, NoMemory};
+use taps_base::NoMemory;
 use taps_chain::{BadAt, Chain, Heard, Hearing, hear_bytes};
 use taps_framer::Framer;
 use taps_text::{Outcome, put_message, put_outcome, put_rest};
@@ -44,7 +45,6 @@ fn one_message(alloc: Global, bytes: &[u8]) -> Result<FrameText, NoMemory>
 }
 
 // The text of what bytes that come in pieces decode to.
-#[tactic(auto, using(crate::proofs::HeardAs::comes_to_end))]
 fn heard_text(
     alloc: Global,
     chain: Chain<'_>,
@@ -58,37 +58,24 @@ fn heard_text(
         bytes.now framed.text.items framed.whole) }
 {
     chain.vouch();
-    let mut sink = List::new(alloc);
-    let hearing = hear_bytes(chain, bytes, piece as usize, &mut sink);
-    hearing_text(alloc, &sink, &hearing)
+    let mut lines = MessageLines {
+        text: Vec::new(alloc),
+    };
+    let hearing = hear_bytes(chain, bytes, piece as usize, &mut lines);
+    ended_text(lines, &hearing)
 }
 
-// The text of messages and of how their decoding ends.
-fn hearing_text(
-    alloc: Global,
-    messages: &List<Body>,
-    hearing: &Hearing,
-) -> Result<FrameText, NoMemory>
+// The text of the messages' lines and of how their decoding ends.
+fn ended_text(lines: MessageLines, hearing: &Hearing) -> Result<FrameText, NoMemory>
     requires { IsEnd hearing.now.end }
     ensures ended { OnOk result (HasEnded hearing.now.end) }
     ensures text { IfOk result (λ framed. framed.text.items ≡
-        message_lines 0 messages.now.items ++ ended_line hearing.now.end hearing.now.rest) }
+        lines.text.items ++ ended_line hearing.now.end hearing.now.rest) }
     ensures whole { IfOk result (λ framed. framed.whole ≡ has_ended_whole hearing.now.end hearing.now.rest) }
 {
-    let mut text = Vec::new(alloc);
-    put_messages(&mut text, messages.as_slice())?;
+    let mut text = lines.text;
     let whole = put_end(&mut text, hearing)?;
     Ok(FrameText { text, whole })
-}
-
-// Appends the lines of messages.
-fn put_messages(text: &mut Vec<u8>, messages: &[Body]) -> Result<(), NoMemory>
-    ensures { OnOk result (text.new.items ≡ text.old.items ++ message_lines 0 messages.now) }
-{
-    for (number, body) in messages.iter().enumerate() {
-        put_message(text, number as u64, body.bytes())?;
-    }
-    Ok(())
 }
 
 // Appends how a decoding ends, and answers whether nothing is left then.

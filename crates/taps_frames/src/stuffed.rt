@@ -230,6 +230,16 @@ fn read_all(frame: &[u8], out: &mut Vec<u8>)
     }
 }
 
+/// Whether a frame begins with an end byte, so that its body is empty.
+fn ends_at_once(frame: &[u8]) -> bool
+    ensures { result ≡ true → plain frame.now ≡ [] }
+{
+    if frame.len() == 0 {
+        return false;
+    }
+    frame[0] == END
+}
+
 impl Framer for Stuffed {
     ghost layer = { λ _. stuffed };
 
@@ -271,6 +281,9 @@ impl Framer for Stuffed {
     }
 
     fn unwrap(&self, _index: u64, frame: &[u8], out: &mut Vec<u8>) -> Result<(), NoMemory> {
+        if ends_at_once(frame) {
+            return Ok(());
+        }
         out.reserve(frame.len())?;
         read_all(frame, out);
         Ok(())

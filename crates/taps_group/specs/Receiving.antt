@@ -1,5 +1,6 @@
 -- What one member of a group does to receive: the call of its connection, with that call's clauses.
-use Rattle.std.specs.Prelude.{◌≡◌, ◌≤◌, ◌<◌, ◌-◌, ◌^◌, ◌++◌, ℕ, List, Option, false}
+use Rattle.std.specs.Prelude.{◌≡◌, ◌≤◌, ◌<◌, ◌-◌, ◌^◌, ◌++◌, ℕ, List, Option, Result, false, IsOk, OnOk, OnErr}
+use Rattle.taps_base.specs.declared.no_memory.NoMemory.{NoMemory}
 use Rattle.taps_framer.specs.declared.framer.Framer as framer
 use Rattle.taps_chain.specs.Layers.{layers_of}
 use Rattle.taps_chain.specs.declared.heard.Heard.{Heard}
@@ -13,9 +14,22 @@ use Rattle.taps_connection.specs.Conditions.{IsHeld}
 use Rattle.taps_connection.specs.Histories.{Given, Represents, RepresentsRead, Decodes, given_by}
 use Rattle.taps_connection.specs.Inboxes.{inbox_of, IsPulled, UnlessFailed, pulled_items, pulled_call}
 use Rattle.taps_connection.specs.Receives.{IsGivenOut}
+use Rattle.taps_connection.specs.Rooms.{room_of}
 use Rattle.taps_connection.specs.Sources.{unread_of}
 use Rattle.taps_connection.specs.Unread.{count_given, IsWanting}
 use Rattle.taps_group.specs.declared.member.Member.{Member}
+
+-- A member made room for so many bytes that are to come (local): nothing but its room changed, which did not shrink.
+-- Memory ran out only where there was less room, and then it stayed.
+pub record MakesRoom {X : Type 0} {F : X → Type 0} (bytes : ℕ) (result : Result (Unit {0}) NoMemory)
+    (m n : Member X F) : Type 0 where
+  pub ok : OnOk result (bytes ≤ room_of n.connection.receiver.source)
+  pub grows : room_of m.connection.receiver.source ≤ room_of n.connection.receiver.source
+  pub had : bytes ≤ room_of m.connection.receiver.source → IsOk result
+  pub err : OnErr result (room_of n.connection.receiver.source ≡ room_of m.connection.receiver.source)
+  pub unread : unread_of n.connection.receiver.source ≡ unread_of m.connection.receiver.source
+  pub ended : n.connection.receiver.ended ≡ m.connection.receiver.ended
+  pub kept : n ≡ record m { connection = record m.connection { receiver = n.connection.receiver } }
 
 -- a member may ask its socket for bytes
 pub record MayDriveIn {X : Type 0} {F : X → Type 0} (net : Net) (until : ℕ) (m : Member X F) : Type 0 where

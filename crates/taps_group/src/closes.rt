@@ -19,20 +19,22 @@ impl<'a> Group<'a> {
         ensures net { N.net net.new ≡ with_closes (sockets_of self.entry.members.items) (N.net net.old) }
         ensures becomes { N.Becomes net.old (close_calls (sockets_of self.entry.members.items)) net.new }
     {
-        let Group {
-            members,
-            props: _,
-            order: _,
-            target: _,
-            chain: _,
-            piece: _,
-        } = self;
-        let mut rest = members.into_iter();
-        while let Some(member) = rest.next() {
-            close(member, net);
-        }
-        rest.destroy_empty();
+        close_all(self.into_members(), net);
     }
+}
+
+/// Closes members at once, by place.
+pub fn close_all<N: Sockets>(members: Vec<Member<'_>>, net: &mut N)
+    requires may { MayClose (N.net net.old).trace (sockets_of members.items) }
+    requires spare { length members.items ≤ (N.net net.old).spare }
+    ensures net { N.net net.new ≡ with_closes (sockets_of members.entry.items) (N.net net.old) }
+    ensures becomes { N.Becomes net.old (close_calls (sockets_of members.entry.items)) net.new }
+{
+    let mut rest = members.into_iter();
+    while let Some(member) = rest.next() {
+        close(member, net);
+    }
+    rest.destroy_empty();
 }
 
 // Closes a member at once.

@@ -13,5 +13,6 @@ mod sending;
 mod worked;
 
 pub use clone::CloneError;
+pub use closes::close_all;
 pub use group::Group;
 pub use member::Member;

@@ -1,17 +1,30 @@
 // The receiving side of a group.
-ghost use Rattle.std.specs.Prelude.{◌≡◌, ◌<◌, length};
+ghost use Rattle.std.specs.Prelude.{◌≡◌, ◌<◌, ◌≤◌, length};
 ghost use Rattle.taps_group.specs.Closes.{IsOpen};
 ghost use Rattle.taps_group.specs.Groups.{IsSoundGroup};
 ghost use Rattle.taps_group.specs.Places.{IsAt, Changes};
-ghost use Rattle.taps_group.specs.Receiving.{MayDriveIn, DrivesIn, MayReceive, GivesOut};
+ghost use Rattle.taps_group.specs.Receiving.{MakesRoom, MayDriveIn, DrivesIn, MayReceive, GivesOut};
 
 use crate::group::Group;
+use taps_base::NoMemory;
 use taps_chain::Heard;
 use taps_connection::Pulled;
 use taps_framer::Framer;
 use taps_socket::Sockets;
 
 impl<'a> Group<'a> {
+    /// The member's own `make_room_in`: makes room for bytes that it is to take in, and changes nothing else.
+    pub fn make_room_in(&mut self, member: u32, bytes: u64) -> Result<(), NoMemory>
+        requires member { member < length self.old.members.items }
+        requires sound { IsSoundGroup ⟦<dyn Framer as Framer>⟧ self.old }
+        requires few { bytes ≤ 65536 }
+        ensures room { Changes (MakesRoom bytes result) member self.old.members.items self.new.members.items }
+        ensures kept { self.new ≡ record self.old { members = self.new.members } }
+        ensures sound { IsSoundGroup ⟦<dyn Framer as Framer>⟧ self.new }
+    {
+        self.members[member as usize].connection.make_room_in(bytes)
+    }
+
     /// The member's own `drive_in`: asks its socket once for bytes, up to a time in milliseconds.
     pub fn drive_in<N: Sockets>(&mut self, member: u32, net: &mut N, until: u64) -> Pulled
         requires member { member < length self.old.members.items }

@@ -19,7 +19,7 @@ use Rattle.taps_group_exchange.specs.GroupExchanges.{AreGroupItems, sockets_in}
 use Rattle.taps_group_exchange.specs.GroupLaws.{JudgesGroups}
 
 -- a request of a socket's data
-abbrev IsOn : ℕ → Request → Type 0
+abbrev pub IsOn : ℕ → Request → Type 0
 IsOn s (to_send x bytes until) = x ≡ s
 IsOn s (to_shut x) = x ≡ s
 IsOn s (to_receive x most until) = x ≡ s
@@ -31,10 +31,10 @@ record IsOnOne (sockets : List ℕ) (r : Request) : Type 0 where
   among : has sockets socket ≡ true
   on : IsOn socket r
 
-not_asks : (r : Request) (o : Outcome) → over o ≡ asks r → ⊥
+pub not_asks : (r : Request) (o : Outcome) → over o ≡ asks r → ⊥
 not_asks r o e = cc
 
-same_over : (o p : Outcome) → over o ≡ over p → o ≡ p
+pub same_over : (o p : Outcome) → over o ≡ over p → o ≡ p
 same_over o p e = cc
 
 or_right : (a b : Bool) → b ≡ true → (a || b) ≡ true
@@ -85,7 +85,7 @@ one_of : (q : Bool) (a b w : Waiting) → (if q then Some b else Some a) ≡ Som
 one_of true a b w e = inr e
 one_of false a b w e = inl e
 
-sooner_is : (a b : Option Waiting) (w : Waiting) → sooner a b ≡ Some w → (a ≡ Some w) ⊎ (b ≡ Some w)
+pub sooner_is : (a b : Option Waiting) (w : Waiting) → sooner a b ≡ Some w → (a ≡ Some w) ⊎ (b ≡ Some w)
 sooner_is None b w e = inr e
 sooner_is (Some a) None w e = inl e
 sooner_is (Some a) (Some b) w e = one_of (is_before b a) a b w e
@@ -106,11 +106,11 @@ sends_asks calls places o (Some w) r is e = by (out_asks w.place.member w.number
     by (inl on) = record { socket = w.place.member.socket; among = next_among calls 0 places w is; on = on }
     by (inr f) = hears_asks calls places o r f
 
-asks_go : (s : Option Outcome) (t : Turn) (r : Request) → unless s t ≡ asks r → (s ≡ None) × (t ≡ asks r)
+pub asks_go : (s : Option Outcome) (t : Turn) (r : Request) → unless s t ≡ asks r → (s ≡ None) × (t ≡ asks r)
 asks_go None t r e = (refl, e)
 asks_go (Some o) t r e = absurd (not_asks r o e)
 
-abbrev turn_behind : List Call → List Place → Turn
+abbrev pub turn_behind : List Call → List Place → Turn
 turn_behind calls places = turn_sending (next_sender calls 0 places) (turns_in calls places (over (outcome_by calls 0 places)))
 
 asked_one : (calls : List Call) (places : List Place) (r : Request) → turn_of_group places calls ≡ asks r → IsOnOne (sockets_in places) r

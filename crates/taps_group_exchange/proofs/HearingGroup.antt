@@ -263,11 +263,11 @@ pub not_stopped : (stopped : Option Outcome) (o : Outcome) (t u : Told) → stop
 not_stopped stopped o t u is e = (let none = none_stopped stopped t u e in let z : Some o ≡ None = sym is ∙ none in cc)
 
 -- as many places as members, and no more are told
-record Sizes (told places members : ℕ) : Type 0 where
-  same : places ≡ members
-  told_few : told ≤ members
+pub record Sizes (told places members : ℕ) : Type 0 where
+  pub same : places ≡ members
+  pub told_few : told ≤ members
 
-split_sizes : {M : Type 0} (Done : Place → Told → Type 0) (Rest : Place → M → Type 0) (told : List Told) (places : List Place) (members : List M) → Split Done Rest told places members → Sizes (length told) (length places) (length members)
+pub split_sizes : {M : Type 0} (Done : Place → Told → Type 0) (Rest : Place → M → Type 0) (told : List Told) (places : List Place) (members : List M) → Split Done Rest told places members → Sizes (length told) (length places) (length members)
 split_sizes Done Rest [] places members z = record { same = each_length Rest places members z; told_few = omega arith }
 split_sizes Done Rest (t ∷ told) [] members z = absurd z
 split_sizes Done Rest (t ∷ told) (p ∷ places) [] z = absurd z

@@ -102,7 +102,7 @@ none_next : (calls : List Call) (n : ℕ) (places : List Place) → AllOut calls
 none_next calls n [] o = refl
 none_next calls n (p ∷ places) o = ap (λ st. sooner (waiting_by p n st) (next_sender calls (n + 1) places)) o.0 ∙ none_next calls (n + 1) places o.1
 
-turn_hearing : (calls : List Call) (places : List Place) → AllOut calls places → turn_of_group places calls ≡ unless (stop calls) (turns_in calls places (over (outcome_by calls 0 places)))
+pub turn_hearing : (calls : List Call) (places : List Place) → AllOut calls places → turn_of_group places calls ≡ unless (stop calls) (turns_in calls places (over (outcome_by calls 0 places)))
 turn_hearing calls places o = ap (λ w. unless (stop calls) (turn_sending w (turns_in calls places (over (outcome_by calls 0 places))))) (none_next calls 0 places o)
 
 -- those that are told heard as much as they need

@@ -61,7 +61,7 @@ all_out_of calls [] (m ∷ members) z = absurd z
 all_out_of calls (p ∷ places) [] z = absurd z
 all_out_of calls (p ∷ places) (m ∷ members) z = (z.0, all_out_of calls places members z.1)
 
-sockets_same : {X : Type 0} {F : X → Type 0} (boxed : (x : X) → framer.Ghosts (F x)) (calls : List Call) (places : List Place) (members : List (Member X F)) → AreStanding boxed calls places members → sockets_in places ≡ sockets_of members
+pub sockets_same : {X : Type 0} {F : X → Type 0} (boxed : (x : X) → framer.Ghosts (F x)) (calls : List Call) (places : List Place) (members : List (Member X F)) → AreStanding boxed calls places members → sockets_in places ≡ sockets_of members
 sockets_same boxed calls [] [] z = refl
 sockets_same boxed calls [] (m ∷ members) z = absurd z
 sockets_same boxed calls (p ∷ places) [] z = absurd z

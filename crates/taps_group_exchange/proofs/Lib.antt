@@ -16,3 +16,8 @@ pub mod HearingSteps
 pub mod HearingGroup
 pub mod GroupJudging
 pub mod Joining
+pub mod GroupEnding
+pub mod HandingOn
+pub mod Readying
+pub mod OwnTurns
+pub mod MemberJudging

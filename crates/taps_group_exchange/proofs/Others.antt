@@ -57,7 +57,7 @@ once_apart f (y ∷ members) (suc i) zero x m once here there differs =
     other_way (f x) (f m) (not_here f members i (f m) x (subst (λ v. has (map f members) (f v) ≡ false) same once.0) here)
 once_apart f (y ∷ members) (suc i) (suc k) x m once here there differs = once_apart f members i k x m once.1 here there (λ e. differs (ap suc e))
 
-same_or_not : (i k : ℕ) → (i ≡ k) ⊎ (i ≡ k → ⊥)
+pub same_or_not : (i k : ℕ) → (i ≡ k) ⊎ (i ≡ k → ⊥)
 same_or_not zero zero = inl refl
 same_or_not zero (suc k) = inr (λ e. omega (arith, e))
 same_or_not (suc i) zero = inr (λ e. omega (arith, e))

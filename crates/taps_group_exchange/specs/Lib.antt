@@ -8,4 +8,7 @@ pub mod Turning
 pub mod GroupExchanges
 pub mod GroupSendings
 pub mod GroupHearings
+pub mod GroupEnds
+pub mod Preparing
 pub mod GroupLaws
+pub mod MemberLaws

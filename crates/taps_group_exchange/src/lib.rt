@@ -6,13 +6,15 @@ mod exchanging;
 mod hearing;
 mod laws;
 mod outcome;
+mod preparing;
 mod sending;
 mod talking;
 mod told;
 mod worked;
 
 pub use addressed::Addressed;
-pub use exchanging::GroupExchanged;
-pub use laws::vouch_groups;
+pub use exchanging::{GroupExchanged, exchange_group};
+pub use laws::{vouch_groups, vouch_members};
 pub use outcome::GroupOutcome;
+pub use preparing::prepare_group;
 pub use told::Told;

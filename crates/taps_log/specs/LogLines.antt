@@ -10,7 +10,7 @@ use Rattle.taps_log.specs.declared.line.Start.TheVariants as starts
 use Rattle.taps_log.specs.declared.line.Ending.{Ending}
 use Rattle.taps_log.specs.declared.line.Ending.TheVariants as endings
 use Rattle.taps_log.specs.declared.line.Line.{Line}
-use Rattle.taps_log.specs.declared.line.Line.TheVariants as lines
+use Rattle.taps_log.specs.Entries.{Entry, entry_of, say_leaves, say_leaf, say_began, say_started, say_waited, say_closed, say_listening, say_not_listening, say_accepted, say_faulted, say_shut, say_ended, say_failed, say_ready, say_sent, say_received, say_part, say_data_failed, say_bad_frame, say_not_speakable, say_expired, say_clone_limit, say_ends}
 
 -- the word of a cause
 abbrev pub cause_word : Cause → List ℕ
@@ -56,33 +56,37 @@ ending_line endings.CloneAllFailed = codes "clone-error all-failed"
 ending_line endings.CloneTimeout = codes "clone-error timeout"
 
 -- the line of the plan, of an item, of an answer, of a message or of an outcome
-abbrev pub line_text : Line → List ℕ
-line_text (lines.Leaves count) = codes "leaves " ++ decimal count
-line_text (lines.Leaf leaf place gap) = decimal leaf ++ (codes " " ++ (place.now ++ gap_text gap))
-line_text (lines.Began at) = codes "begin " ++ decimal at
-line_text (lines.Started leaf start at) = codes "start " ++ (decimal leaf ++ start_text start (moment_text at))
-line_text (lines.Waited until how at) = codes "wait " ++ (decimal until ++ how_text how (decimal at))
-line_text (lines.Closed socket) = codes "close " ++ decimal socket
-line_text (lines.Listening socket address at) =
-    codes "listen " ++ (decimal socket ++ (codes " " ++ (address.now ++ moment_text at)))
-line_text (lines.NotListening cause at) = codes "listen refused " ++ (cause_word cause ++ moment_text at)
-line_text (lines.Accepted socket listener at) =
+abbrev pub entry_text : Entry → List ℕ
+entry_text (say_leaves count) = codes "leaves " ++ decimal count
+entry_text (say_leaf leaf place gap) = decimal leaf ++ (codes " " ++ (place ++ gap_text gap))
+entry_text (say_began at) = codes "begin " ++ decimal at
+entry_text (say_started leaf start at) = codes "start " ++ (decimal leaf ++ start_text start (moment_text at))
+entry_text (say_waited until how at) = codes "wait " ++ (decimal until ++ how_text how (decimal at))
+entry_text (say_closed socket) = codes "close " ++ decimal socket
+entry_text (say_listening socket address at) =
+    codes "listen " ++ (decimal socket ++ (codes " " ++ (address ++ moment_text at)))
+entry_text (say_not_listening cause at) = codes "listen refused " ++ (cause_word cause ++ moment_text at)
+entry_text (say_accepted socket listener at) =
     codes "accept " ++ (decimal socket ++ (codes " from " ++ (decimal listener ++ moment_text at)))
-line_text (lines.Faulted at) = codes "faulted at " ++ decimal at
-line_text (lines.Shut socket) = codes "shut " ++ decimal socket
-line_text (lines.Ended socket) = codes "ended " ++ decimal socket
-line_text (lines.Failed socket cause) = codes "failed " ++ (decimal socket ++ (codes " " ++ cause_word cause))
-line_text (lines.Ready leaf) = codes "ready " ++ decimal leaf
-line_text (lines.Sent member count) = codes "sent " ++ (decimal member ++ (codes " " ++ decimal count))
-line_text (lines.Received member number hex) =
-    codes "received " ++ (decimal member ++ (codes " " ++ (decimal number ++ (codes " " ++ hex.now))))
-line_text (lines.Part member number hex) =
-    codes "part " ++ (decimal member ++ (codes " " ++ (decimal number ++ (codes " " ++ hex.now))))
-line_text (lines.DataFailed cause) = codes "data-failed " ++ cause_word cause
-line_text (lines.BadFrame message layer place) =
+entry_text (say_faulted at) = codes "faulted at " ++ decimal at
+entry_text (say_shut socket) = codes "shut " ++ decimal socket
+entry_text (say_ended socket) = codes "ended " ++ decimal socket
+entry_text (say_failed socket cause) = codes "failed " ++ (decimal socket ++ (codes " " ++ cause_word cause))
+entry_text (say_ready leaf) = codes "ready " ++ decimal leaf
+entry_text (say_sent member count) = codes "sent " ++ (decimal member ++ (codes " " ++ decimal count))
+entry_text (say_received member number hex) =
+    codes "received " ++ (decimal member ++ (codes " " ++ (decimal number ++ (codes " " ++ hex))))
+entry_text (say_part member number hex) =
+    codes "part " ++ (decimal member ++ (codes " " ++ (decimal number ++ (codes " " ++ hex))))
+entry_text (say_data_failed cause) = codes "data-failed " ++ cause_word cause
+entry_text (say_bad_frame message layer place) =
     codes "bad-frame " ++ (decimal message ++ (codes " " ++ (decimal layer ++ (codes " " ++ decimal place))))
-line_text (lines.NotSpeakable member number layer) =
+entry_text (say_not_speakable member number layer) =
     codes "not-speakable " ++ (decimal member ++ (codes " " ++ (decimal number ++ (codes " " ++ decimal layer))))
-line_text (lines.Expired member number) = codes "expired " ++ (decimal member ++ (codes " " ++ decimal number))
-line_text (lines.CloneLimit limit) = codes "clone-error limit-reached " ++ decimal limit
-line_text (lines.Ends ending) = ending_line ending
+entry_text (say_expired member number) = codes "expired " ++ (decimal member ++ (codes " " ++ decimal number))
+entry_text (say_clone_limit limit) = codes "clone-error limit-reached " ++ decimal limit
+entry_text (say_ends ending) = ending_line ending
+
+-- the text of what a line says
+abbrev pub line_text : Line → List ℕ
+line_text line = entry_text (entry_of line)

@@ -13,3 +13,11 @@ pub mod Going
 pub mod Closings
 pub mod Acceptings
 pub mod Loopings
+mod SendSteps
+mod Spelling
+mod Asking
+mod Causing
+mod LoopWritten
+mod Prefixing
+mod Standing
+pub mod Judging

@@ -125,7 +125,7 @@ side_next : (x : Ends) (until : ℕ) (alone next a b : Outbox) (number : ℕ) (e
 side_next x until alone next a b number true rest behind calls r h p q = cc
 side_next x until alone next a b number false rest behind calls r h p q = absurd (nothing_next x.from.socket until alone r h p)
 
-none_left : (count : ℕ) (rest : List ℕ) → nat_lt count (length rest) ≡ false → drop count rest ≡ []
+pub none_left : (count : ℕ) (rest : List ℕ) → nat_lt count (length rest) ≡ false → drop count rest ≡ []
 none_left count rest e = empty (drop count rest) (let l = length-drop count rest in let few : length rest ≤ count = not_less count (length rest) e in omega (arith, l, few))
   where
     empty : (r : List ℕ) → length r ≡ 0 → r ≡ []
@@ -135,7 +135,7 @@ none_left count rest e = empty (drop count rest) (let l = length-drop count rest
     not_less : (a b : ℕ) → nat_lt a b ≡ false → b ≤ a
     not_less a b e = ltb-false a b e
 
-some_left : (count : ℕ) (rest : List ℕ) → nat_lt count (length rest) ≡ true → 0 < length (drop count rest)
+pub some_left : (count : ℕ) (rest : List ℕ) → nat_lt count (length rest) ≡ true → 0 < length (drop count rest)
 some_left count rest e = (let l = length-drop count rest in let few : count < length rest = ltb-true count (length rest) e in omega (arith, l, few))
 
 sent_next : (x : Ends) (e : Encoding) (until : ℕ) (a b : Outbox) (number : ℕ) (ends : Bool) (rest : List ℕ) (behind : List Accepted) (count m m' : ℕ) (t : Bool) (calls : List Call) (r : Request) → nat_lt count (length rest) ≡ t →

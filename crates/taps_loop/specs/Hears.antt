@@ -74,7 +74,8 @@ IsFlagged true needs h ms = (needs ≤ length ms) × (h ≡ enough (take needs m
 IsFlagged false needs h ms = (length ms < needs) × ((unread : List ℕ) × (h ≡ lacks ms unread))
 
 -- nothing was asked for, since as many were heard as are needed; or a call was made; or the exchange is over
-abbrev pub IsIn : Ends → List Call → List Call → Bool → List Layer → ℕ → ℕ → ℕ → In → Bool → Unread → List (List ℕ) → Type 0
+abbrev pub IsIn : Ends → List Call → List Call → Bool → List Layer → ℕ → ℕ → ℕ → In → Bool → Unread →
+    List (List ℕ) → Type 0
 IsIn x calls later stream fs piece more needs in_turn.Enough ended u ms =
     (later ≡ []) × IsKept x calls stream fs piece ended u ms × IsFlagged true needs (hearing x more calls) ms
 IsIn x calls later stream fs piece more needs (in_turn.Asked b) ended u ms =
@@ -86,7 +87,8 @@ IsIn x calls later stream fs piece more needs (in_turn.Over o) ended u ms =
 
 abbrev pub IsInIf : Ends → List Call → List Call → Bool → List Layer → ℕ → ℕ → ℕ → Result In NoMemory → Bool → Unread →
     List (List ℕ) → Type 0
-IsInIf x calls later stream fs piece more needs (Ok i) ended u ms = IsIn x calls later stream fs piece more needs i ended u ms
+IsInIf x calls later stream fs piece more needs (Ok i) ended u ms =
+    IsIn x calls later stream fs piece more needs i ended u ms
 IsInIf x calls later stream fs piece more needs (Err none) ended u ms = Unit {0}
 
 -- bytes or the end of the stream came, so that what was read is looked at
@@ -97,8 +99,8 @@ pub record HasCome (x : Ends) (calls : List Call) (stream : Bool) (fs : List Lay
   pub had : had_turn calls ≡ true
   pub waits : waiting x calls ≡ more
 
-abbrev pub IsReadIf : Ends → List Call → List Call → Bool → List Layer → ℕ → ℕ → ℕ → Result Asked NoMemory → Bool → Unread →
-    List (List ℕ) → Type 0
+abbrev pub IsReadIf : Ends → List Call → List Call → Bool → List Layer → ℕ → ℕ → ℕ → Result Asked NoMemory → Bool →
+    Unread → List (List ℕ) → Type 0
 IsReadIf x calls later stream fs piece more needs (Ok asked.Came) ended u ms =
     HasCome x (later ++ calls) stream fs piece more ended u ms
 IsReadIf x calls later stream fs piece more needs (Ok asked.Nothing) ended u ms =
@@ -108,8 +110,8 @@ IsReadIf x calls later stream fs piece more needs (Ok (asked.Over o)) ended u ms
 IsReadIf x calls later stream fs piece more needs (Err none) ended u ms = Unit {0}
 
 -- calls on the socket were made, each in turn
-pub record HasAsked {N : Type 0} (Becomes : N → List Call → N → Type 0) (x : Ends) (calls : List Call) (before after : N)
-    (P : List Call → Type 0) : Type 0 where
+pub record HasAsked {N : Type 0} (Becomes : N → List Call → N → Type 0) (x : Ends) (calls : List Call)
+    (before after : N) (P : List Call → Type 0) : Type 0 where
   pub later : List Call
   pub becomes : Becomes before later after
   pub in_turn : IsInTurn (turn_loop x) (later ++ calls)
@@ -117,10 +119,12 @@ pub record HasAsked {N : Type 0} (Becomes : N → List Call → N → Type 0) (x
   pub then_so : P later
 
 -- less is to be heard, or the deadline is nearer, unless it has passed and a message waits
-pub record IsSooner (waits : Bool) (deadline told told' : ℕ) (ended : Bool) (u : Unread) (ended' : Bool) (u' : Unread) : Type 0 where
+pub record IsSooner (waits : Bool) (deadline told told' : ℕ) (ended : Bool) (u : Unread) (ended' : Bool) (u' : Unread) :
+    Type 0 where
   pub rises : told ≤ told'
   pub same : to_hear ended' u' ≤ to_hear ended u
-  pub less : (waits ≡ true → told < deadline) → to_hear ended' u' + (deadline - told') < to_hear ended u + (deadline - told)
+  pub less : (waits ≡ true → told < deadline) →
+      to_hear ended' u' + (deadline - told') < to_hear ended u + (deadline - told)
 
 abbrev pub IfCame : Result Asked NoMemory → Type 0 → Type 0
 IfCame (Ok asked.Came) P = P

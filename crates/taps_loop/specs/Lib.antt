@@ -5,3 +5,4 @@ pub mod Sends
 pub mod Hears
 pub mod Rounds
 pub mod Looped
+pub mod Judged

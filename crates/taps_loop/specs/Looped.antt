@@ -86,8 +86,8 @@ pub record ClosesBoth (from to : ℕ) (before after : Net) : Type 0 where
   pub faults : after.faults ≡ before.faults
   pub others : (s : ℕ) → s ≢ from → s ≢ to → after.traffic s ≡ before.traffic s
 
--- A connection was accepted, at a time; both ends went through their exchange; and their sockets and the listener's were
--- closed.
+-- A connection was accepted, at a time; both ends went through their exchange; and their sockets and the listener's
+-- were closed.
 pub record IsLooped {N : Type 0} (Becomes : N → List Call → N → Type 0) (ends : ℕ → ℕ → Ends) (listener from until : ℕ)
     (before after : N) (net net' : Net) (e : Exchanged) : Type 0 where
   pub to : ℕ

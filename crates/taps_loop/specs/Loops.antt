@@ -120,8 +120,8 @@ turn_behind x (ending behind) calls = turn_then x (waiting x calls) calls
 turn_behind x (refused number layer behind) calls = turn_then x (waiting x calls) calls
 turn_behind x all_out calls = turn_then x (waiting x calls) calls
 
--- What comes next, by the newest call. A message goes on up to the same time. A timed turn ends the exchange only if the
--- deadline has passed, and one of the accepted end only if besides no message is begun or queued.
+-- What comes next, by the newest call. A message goes on up to the same time. A timed turn ends the exchange only if
+-- the deadline has passed, and one of the accepted end only if besides no message is begun or queued.
 abbrev pub turn_by : Ends → Call → List Call → Turn
 turn_by x (sends socket bytes until (send.Sent count at)) earlier =
     if nat_lt count (length bytes) then asks (to_send x.from.socket (drop count bytes) until)

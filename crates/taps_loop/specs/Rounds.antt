@@ -28,7 +28,8 @@ abbrev pub until_if : Bool → ℕ → ℕ → ℕ
 until_if enough told deadline = if enough then soon_by told deadline else min deadline told
 
 -- the sockets of both ends, how messages become bytes and bytes messages, and the deadline
-pub record AreEnds (x : Ends) (e : Encoding) (from : ℕ) (stream : Bool) (fs : List Layer) (to piece deadline : ℕ) : Type 0 where
+pub record AreEnds (x : Ends) (e : Encoding) (from : ℕ) (stream : Bool) (fs : List Layer) (to piece deadline : ℕ) :
+    Type 0 where
   pub encoding_is : x.from.encoding ≡ e
   pub from_is : x.from.socket ≡ from
   pub apart : x.to.socket ≢ from
@@ -98,8 +99,8 @@ abbrev pub AreLoopItems : ℕ → ℕ → List Item → Type 0
 AreLoopItems a b [] = Unit {0}
 AreLoopItems a b (i ∷ items) = (IsExchangeItem a i ⊎ IsExchangeItem b i) × AreLoopItems a b items
 
--- items of the data of both sockets were added, for which spare was used up; no call was faulted; and the traffic of all
--- other sockets stayed
+-- items of the data of both sockets were added, for which spare was used up; no call was faulted; and the traffic of
+-- all other sockets stayed
 pub record Moves (a b : ℕ) (before after : Net) : Type 0 where
   pub items : List Item
   pub trace : after.trace ≡ items ++ before.trace

@@ -54,9 +54,10 @@ out_by deadline (pushed.Failed cause) = Ok (out.Over (outcome.DataFailed cause))
 out_by deadline (pushed.NotSpeakable number layer) = Ok (out.Over (outcome.NotSpeakable 0 number layer))
 out_by deadline pushed.NoMemory = Err (record {})
 
--- after these calls it is the turn of the sending end, and what is kept of its sending stands for them. What it asks for
--- goes up to a time
-pub record IsToSend (x : Ends) (calls : List Call) (e : Encoding) (socket until deadline : ℕ) (s : Sender) : Type 0 where
+-- after these calls it is the turn of the sending end, and what is kept of its sending stands for them. What it asks
+-- for goes up to a time
+pub record IsToSend (x : Ends) (calls : List Call) (e : Encoding) (socket until deadline : ℕ) (s : Sender) :
+    Type 0 where
   pub encoding_is : x.from.encoding ≡ e
   pub socket_is : x.from.socket ≡ socket
   pub deadline_is : x.from.until ≡ deadline
@@ -90,8 +91,8 @@ IfOutGoesOn (Ok out.Passed) P = P
 IfOutGoesOn (Ok (out.Over o)) P = Unit {0}
 IfOutGoesOn (Err none) P = Unit {0}
 
--- Calls on the socket were made, each in turn. While the exchange goes on, what is kept stands for them; and it tells how
--- many messages were sent.
+-- Calls on the socket were made, each in turn. While the exchange goes on, what is kept stands for them; and it tells
+-- how many messages were sent.
 pub record HasTurned {N : Type 0} (Becomes : N → List Call → N → Type 0) (x : Ends) (calls : List Call) (e : Encoding)
     (before after : N) (result : Result Out NoMemory) (t : Sender) : Type 0 where
   pub more : List Call

@@ -21,7 +21,7 @@ use crate::looked::{Look, look_for};
 use crate::reporting::Reporting;
 use taps_base::{Body, NoMemory};
 use taps_connection::{Connection, Open, Pulled};
-use taps_exchange::Outcome;
+use taps_exchange::{Outcome, ask_once};
 use taps_framer::Framer;
 
 // As many messages were heard as are needed, and nothing was asked for; or bytes were, and as many are heard now or
@@ -87,7 +87,7 @@ pub fn ask_in_turn<N: Reporting, S: Open>(
     ensures sender { to.new.sender ≡ record to.old.sender { moment = to.new.sender.moment } }
 {
     let until = soon(net.told(), deadline);
-    let pulled = to.drive_in(net, until);
+    let pulled = ask_once(to, until, net);
     turn_of(pulled, deadline, waits)
 }
 

@@ -5,6 +5,7 @@
 
 mod both;
 mod hearing;
+mod laws;
 mod looked;
 mod looped;
 mod reporting;
@@ -13,5 +14,6 @@ mod sending;
 mod turns;
 mod worked;
 
+pub use laws::vouch_loops;
 pub use looped::{Looped, loop_over};
 pub use reporting::Reporting;

@@ -30,10 +30,10 @@ pub enum Looped {
     Faulted,
 }
 
-/// Accepts one connection, whose stack carries a stream, and lets both ends exchange messages: the one over a socket that
-/// was given to it, which sends all messages, and the accepted one, which hears them. The accept and the exchange go on
-/// for so many milliseconds each, and over a stream so many bytes are asked for at once. The sockets of both ends and the
-/// listener's are closed, each once, whatever came.
+/// Accepts one connection, whose stack carries a stream, and lets both ends exchange messages: the one over a
+/// socket that was given to it, which sends all messages, and the accepted one, which hears them. The accept and the
+/// exchange go on for so many milliseconds each, and over a stream so many bytes are asked for at once. The sockets of
+/// both ends and the listener's are closed, each once, whatever came.
 pub fn loop_over<N: Reporting>(
     alloc: Global,
     mut listener: Listener,

@@ -179,8 +179,8 @@ fn done(expired: Option<u64>) -> Outcome
     }
 }
 
-// The time up to which the sending end sends: the last reported one, or a millisecond later where the accepted end needs
-// no more.
+// The time up to which the sending end sends: the last reported one, or a millisecond later where the accepted end
+// needs no more.
 fn until_of(enough: bool, told: u64, deadline: u64) -> u64
     requires { deadline < 2 ^ 63 }
     ensures until { result ≡ until_if enough told deadline }

@@ -47,7 +47,11 @@ some_join (l ∷ links) s t h = by_test (joins s t l) (some_join links s t) refl
 own_join : (l : Link) (links : List Link) (s t : ℕ) → IsSound l → is_at l.starter.end s ≡ true → is_at l.acceptor.end t ≡ true → AreJoinedEnds (traffic_at (l ∷ links)) s t
 own_join l links s t sound a b =
     let away : is_at l.starter.end t ≡ false = false_unless (is_at l.starter.end t) (λ e. (let z : true ≡ false = sym b ∙ sound.apart t e in cc)) in
-    record { there = rw (a, away, b) (read_from l.starter l.acceptor); back = rw (a, away, b) (read_from l.acceptor l.starter) }
+    record {
+      apart = λ e. (let z : true ≡ false = sym a ∙ (ap (is_at l.starter.end) e ∙ away) in cc);
+      there = rw (a, away, b) (read_from l.starter l.acceptor);
+      back = rw (a, away, b) (read_from l.acceptor l.starter);
+    }
 
 skip : (l : Link) (links : List Link) (s : ℕ) → ((q : ℕ) → link_has q l ≡ true → has_link links q ≡ false) → has_link links s ≡ true → traffic_at (l ∷ links) s ≡ traffic_at links s
 skip l links s apart there =
@@ -66,6 +70,7 @@ joined (l ∷ links) s t sound h = by_test (joins s t l) (joined links s t sound
         let at_s = skip l links s sound.1 a in
         let at_t = skip l links t sound.1 b in
         record {
+          apart = rest.apart;
           there = subst (λ v. IsReadFrom v.written (traffic_at (l ∷ links) t).read) (sym at_s) (subst (λ v. IsReadFrom (traffic_at links s).written v.read) (sym at_t) rest.there);
           back = subst (λ v. IsReadFrom v.written (traffic_at (l ∷ links) s).read) (sym at_t) (subst (λ v. IsReadFrom (traffic_at links t).written v.read) (sym at_s) rest.back);
         })

@@ -11,4 +11,6 @@ pub mod Going
 pub mod Founds
 pub mod Answered
 pub mod Joining
+pub mod Meeting
+pub mod Streams
 pub mod WorkedMemory

@@ -1,6 +1,6 @@
 -- Which sockets are the two ends of one connection, as the items tell, and that both are joined reliably. A trace stands
 -- with its newest item first.
-use Rattle.std.specs.Prelude.{◌≡◌, ℕ, ◌==◌, Bool, true, ◌&&◌, if◌then◌else◌, false, List, [], ◌∷◌, ◌++◌, Option, None, Some}
+use Rattle.std.specs.Prelude.{◌≡◌, ◌≢◌, ℕ, ◌==◌, Bool, true, ◌&&◌, if◌then◌else◌, false, List, [], ◌∷◌, ◌++◌, Option, None, Some}
 use Rattle.std.specs.List.{list_any, concat}
 use Rattle.std.specs.Option.{option_map_or}
 use Rattle.taps_socket.specs.declared.item.Item.{Item}
@@ -51,8 +51,9 @@ IsReadFrom None read = ⊥
 IsReadFrom (Some written) None = ⊥
 IsReadFrom (Some written) (Some read) = (rest : List ℕ) × (concat written ≡ concat read ++ rest)
 
--- each of two ends reads what was written at the other
+-- each of two ends, which are two sockets, reads what was written at the other
 pub record AreJoinedEnds (traffic : ℕ → Traffic) (s t : ℕ) : Type 0 where
+  pub apart : s ≢ t
   pub there : IsReadFrom (traffic s).written (traffic t).read
   pub back : IsReadFrom (traffic t).written (traffic s).read
 

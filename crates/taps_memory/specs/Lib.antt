@@ -7,6 +7,7 @@ pub mod MemoryAnswers
 pub mod MemorySteps
 pub mod Memory
 pub mod Joined
+pub mod Met
 pub mod Kept
 pub mod Goings
 pub mod Begun

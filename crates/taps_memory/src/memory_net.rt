@@ -3,6 +3,7 @@ ghost use Rattle.std.specs.List.{All};
 ghost use Rattle.taps_memory.specs.Links.{unused_link};
 ghost use Rattle.taps_memory.specs.Joined.{AreJoinedReliably};
 ghost use Rattle.taps_memory.specs.Memory.{at_first, net_of};
+ghost use Rattle.taps_memory.specs.Met.{JoinsWinner, MeetInMemory, WinsOverStream};
 
 use crate::link::Link;
 use crate::listening::Listening;
@@ -121,6 +122,16 @@ impl MemoryNet {
         ensures { AreJoinedReliably (net_of self.now) }
     {
         let _ = &self.links;
+    }
+
+    /// Nothing: its clauses say that where the first call was a listen, and a race behind it had a winner, the winner
+    /// and the connection that is accepted behind the race are the two ends of one connection, joined reliably, which is a stream.
+    pub fn joins_winner(&self)
+        ensures ends { MeetInMemory }
+        ensures joined { JoinsWinner self.now }
+        ensures stream { WinsOverStream }
+    {
+        self.joined();
     }
 }
 

@@ -30,7 +30,7 @@ enum Call {
 // the calls; and how often an accept was faulted.
 type Row = (u32, &'static [u64], u64, &'static [Call], usize);
 
-const ROWS: [Row; 5] = [
+static ROWS: [Row; 5] = [
     // Connections are accepted in the order of their starts, up to the limit, behind which the sockets are not asked.
     (
         4,

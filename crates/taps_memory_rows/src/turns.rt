@@ -44,7 +44,7 @@ type Row = (
     Option<Cause>,
 );
 
-const ROWS: [Row; 7] = [
+static ROWS: [Row; 7] = [
     // A ring of a byte: each send takes one, and is timed before the rest.
     (
         1,

@@ -31,18 +31,16 @@ enum Plain {
     TooLong,
     NotToml,
     NoRemote,
-    NotYet,
     UnknownFramer(u64),
     TooManyRemotes(u64),
     Script(u64),
 }
 
 // The other refusals, each with its words.
-static WITHOUT_KEY: [(Plain, &str); 7] = [
+static WITHOUT_KEY: [(Plain, &str); 6] = [
     (Plain::TooLong, "too long"),
     (Plain::NotToml, "not toml"),
     (Plain::NoRemote, "no remote"),
-    (Plain::NotYet, "not yet"),
     (Plain::UnknownFramer(7), "unknown framer framers[7]"),
     (Plain::TooManyRemotes(33), "too many remote 33"),
     (Plain::Script(4097), "script line 4097"),
@@ -53,7 +51,6 @@ fn refusal_of(plain: Plain) -> Refusal {
         Plain::TooLong => Refusal::TooLong,
         Plain::NotToml => Refusal::File(PreError::NotToml),
         Plain::NoRemote => Refusal::File(PreError::NoRemote),
-        Plain::NotYet => Refusal::NotYet,
         Plain::UnknownFramer(place) => Refusal::UnknownFramer(place),
         Plain::TooManyRemotes(count) => Refusal::TooManyRemotes(count),
         Plain::Script(line) => Refusal::Script(line),

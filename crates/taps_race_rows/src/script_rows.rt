@@ -2,7 +2,7 @@ use std::alloc::Global;
 use std::test::Fail;
 use taps_script::{ScriptError, ScriptSockets};
 
-const GOOD: [&[u8]; 9] = [
+static GOOD: [&[u8]; 9] = [
     b"",
     b"\n",
     b"# \xff\n\nlate 0",
@@ -15,7 +15,7 @@ const GOOD: [&[u8]; 9] = [
 ];
 
 // Scripts with a bad line, and its number.
-const BAD: [(&[u8], u64); 58] = [
+static BAD: [(&[u8], u64); 58] = [
     (b"begin 0\nlate 0\nbegin 0\n", 3),
     (b"late 1\nlate 1", 2),
     (b"fault 3\nfault 4\nfault 3", 3),
@@ -80,7 +80,7 @@ const BAD: [(&[u8], u64); 58] = [
 ];
 
 // The lines of the other end that may not stand beside an echo, and that may not follow one.
-const NO_ECHO: [(&[u8], u64); 6] = [
+static NO_ECHO: [(&[u8], u64); 6] = [
     (b"peer echo\npeer sends 0 00", 2),
     (b"peer echo\npeer ends 0", 2),
     (b"peer echo\npeer fails 0 other", 2),

@@ -3,6 +3,8 @@
 #![tactic(auto)]
 
 #[cfg(test)]
+mod bench_rows;
+#[cfg(test)]
 mod loopback_rows;
 #[cfg(test)]
 mod pair_rows;

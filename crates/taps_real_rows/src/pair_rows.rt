@@ -22,7 +22,7 @@ const WORD: [u8; 5] = *b"hello";
 const UNTIL: u64 = 60_000;
 
 // A socket that is connected to a listener, and the one that was accepted there.
-fn pair<N: Sockets>(target: Target, net: &mut N) -> Option<(u32, u32)>
+pub fn pair<N: Sockets>(target: Target, net: &mut N) -> Option<(u32, u32)>
     requires fresh { (N.net net.old).trace ≡ [] }
     requires room { 9 ≤ (N.net net.old).spare }
     requires stream { is_stream target.stack ≡ true }

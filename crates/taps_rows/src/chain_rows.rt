@@ -1,7 +1,9 @@
-ghost use Rattle.std.specs.Prelude.{◌≡◌, ◌≤◌, length, IfOk};
+ghost use Rattle.std.specs.Prelude.{◌≡◌, ◌≤◌, ◌<◌, length, IfOk};
 ghost use Rattle.taps_chain.specs.Hearings.{joined};
+ghost use Rattle.taps_chain.specs.Layers.{layers_of};
 
-use std::alloc::Global;
+use std::alloc::{AllocError, Global};
+use std::process::Abort;
 use std::test::Fail;
 use taps_base::{Body, List, NoMemory};
 use taps_chain::{Chain, Heard, WholeAnswer, WrapError, hear_pieces};
@@ -23,14 +25,30 @@ fn single_bytes(alloc: Global, stream: &[u8]) -> Result<List<Body>, NoMemory>
     Ok(pieces)
 }
 
-#[test]
-fn messages_are_wrapped(rt: HostRuntime) -> Result<(), Fail> {
-    let alloc = rt.alloc();
+fn one_layer(alloc: Global) -> Result<Vec<Box<dyn Framer>>, AllocError>
+    ensures { IfOk result (λ shelf. length shelf.items ≡ 1) }
+{
     let mut shelf: Vec<Box<dyn Framer>> = Vec::new(alloc);
     shelf.push(Box::new(alloc, Len16)?)?;
+    Ok(shelf)
+}
+
+fn two_layers(alloc: Global) -> Result<Vec<Box<dyn Framer>>, AllocError>
+    ensures { IfOk result (λ shelf. length shelf.items ≡ 2) }
+{
+    let mut shelf = one_layer(alloc)?;
     shelf.push(Box::new(alloc, Netstring)?)?;
-    assert_eq!(rt; shelf.len(), 2);
-    let chain = Chain::new(alloc, &shelf, &[0, 1])?;
+    Ok(shelf)
+}
+
+#[test]
+fn messages_are_wrapped(rt: HostRuntime) -> Result<(), Fail> {
+    let shelf = two_layers(rt.alloc())?;
+    let chain = Chain::new(rt.alloc(), &shelf, &[0, 1])?;
+    is_wrapped(&rt, &chain)
+}
+
+fn is_wrapped(rt: &impl Abort, chain: &Chain<'_>) -> Result<(), Fail> {
     let bytes = chain.wrap(0, b"hi")?;
     assert_eq!(rt; bytes.as_slice(), b"\x00\x052:hi,".as_slice());
     assert!(rt;
@@ -41,45 +59,48 @@ fn messages_are_wrapped(rt: HostRuntime) -> Result<(), Fail> {
 
 #[test]
 fn the_longest_body_fits(rt: HostRuntime) -> Result<(), Fail> {
-    let alloc = rt.alloc();
-    let mut shelf: Vec<Box<dyn Framer>> = Vec::new(alloc);
-    shelf.push(Box::new(alloc, Len16)?)?;
-    assert_eq!(rt; shelf.len(), 1);
-    let chain = Chain::new(alloc, &shelf, &[0])?;
-    let longest = vec![in alloc; b'x'; 65_535]?;
-    assert_eq!(rt; chain.wrap(0, &longest)?.len(), 65_537);
-    let longer = vec![in alloc; b'x'; 65_536]?;
+    let shelf = one_layer(rt.alloc())?;
+    let chain = Chain::new(rt.alloc(), &shelf, &[0])?;
+    assert_eq!(rt; wrapped(rt.alloc(), &chain, 65_535)?, Ok(65_537));
     assert_eq!(rt;
-        chain.wrap(0, &longer).err(),
-        Some(WrapError::NotSpeakable(0))
+        wrapped(rt.alloc(), &chain, 65_536)?,
+        Err(WrapError::NotSpeakable(0))
     );
     Ok(())
 }
 
 #[test]
 fn a_frame_of_a_frame_must_fit(rt: HostRuntime) -> Result<(), Fail> {
-    let alloc = rt.alloc();
-    let mut shelf: Vec<Box<dyn Framer>> = Vec::new(alloc);
-    shelf.push(Box::new(alloc, Len16)?)?;
-    shelf.push(Box::new(alloc, Netstring)?)?;
-    assert_eq!(rt; shelf.len(), 2);
-    let chain = Chain::new(alloc, &shelf, &[0, 1])?;
-    let body = vec![in alloc; b'x'; 65_530]?;
+    let shelf = two_layers(rt.alloc())?;
+    let chain = Chain::new(rt.alloc(), &shelf, &[0, 1])?;
     assert_eq!(rt;
-        chain.wrap(0, &body).err(),
-        Some(WrapError::NotSpeakable(0))
+        wrapped(rt.alloc(), &chain, 65_530)?,
+        Err(WrapError::NotSpeakable(0))
     );
     Ok(())
 }
 
+// The length of the frame of a body of this length, or why there is none.
+fn wrapped(
+    alloc: Global,
+    chain: &Chain<'_>,
+    length: usize,
+) -> Result<Result<usize, WrapError>, AllocError> {
+    let body = vec![in alloc; b'x'; length]?;
+    Ok(chain.wrap(0, &body).map(|frame| frame.len()))
+}
+
 #[test]
 fn single_bytes_are_heard(rt: HostRuntime) -> Result<(), Fail> {
-    let alloc = rt.alloc();
-    let mut shelf: Vec<Box<dyn Framer>> = Vec::new(alloc);
-    shelf.push(Box::new(alloc, Len16)?)?;
-    shelf.push(Box::new(alloc, Netstring)?)?;
-    assert_eq!(rt; shelf.len(), 2);
-    let chain = Chain::new(alloc, &shelf, &[0, 1])?;
+    let shelf = two_layers(rt.alloc())?;
+    let chain = Chain::new(rt.alloc(), &shelf, &[0, 1])?;
+    is_heard(&rt, rt.alloc(), chain)
+}
+
+// The bytes are heard, each in a piece of its own.
+fn is_heard(rt: &impl Abort, alloc: Global, chain: Chain<'_>) -> Result<(), Fail>
+    requires { 0 < length (layers_of ⟦<dyn Framer as Framer>⟧ chain) }
+{
     let pieces = single_bytes(alloc, b"\x00\x052:hi,\x00\x052:")?;
     let mut sink = List::new(alloc);
     let hearing = hear_pieces(chain, &pieces, &mut sink);

@@ -3,7 +3,7 @@ use crate::row::{Row, holds};
 use std::test::Fail;
 
 // Files with their plans.
-const PLANS: [Row<'static>; 17] = [
+static PLANS: [Row<'static>; 17] = [
     Row {
         bytes: b"[[remote]]\naddress = \"127.0.0.1:9000\"\n",
         out: "leaves 1\n0 any tcp 127.0.0.1:9000 +0\n",
@@ -126,7 +126,7 @@ const PLANS: [Row<'static>; 17] = [
 ];
 
 // Files with what is wrong with them.
-const REFUSALS: [Row<'static>; 19] = [
+static REFUSALS: [Row<'static>; 19] = [
     Row {
         bytes: b"[selection]\nreliabilty = \"require\"\n[[remote]]\naddress = \"127.0.0.1:9000\"\n",
         out: "",

@@ -20,8 +20,13 @@ pub const UNFRAME: Row<'static> = Row {
     ..PLAIN
 };
 
-// The number of bytes of each piece.
-const PIECES: [u32; 4] = [1, 7, 4_096, 65_536];
+// Each size of pieces.
+static EXCHANGES: [&str; 4] = [
+    "[exchange]\npiece = 1\n",
+    "[exchange]\npiece = 7\n",
+    "[exchange]\npiece = 4096\n",
+    "[exchange]\npiece = 65536\n",
+];
 
 /// The framers of a file, bytes, and what is heard in them.
 #[derive(Clone, Copy)]
@@ -32,7 +37,7 @@ struct Heard {
     code: u8,
 }
 
-const HEARD: [Heard; 12] = [
+static HEARD: [Heard; 12] = [
     Heard {
         framers: "\"len16\", \"netstring\"",
         bytes: b"\x00\x052:hi,\x00\x052:",
@@ -107,7 +112,7 @@ const HEARD: [Heard; 12] = [
     },
 ];
 
-const BAD: [Heard; 15] = [
+static BAD: [Heard; 15] = [
     Heard {
         framers: "\"netstring\"",
         bytes: b"01:a,",
@@ -209,7 +214,7 @@ struct Framed {
     code: u8,
 }
 
-const FRAMED: [Framed; 14] = [
+static FRAMED: [Framed; 14] = [
     Framed {
         framers: "\"len16\", \"netstring\"",
         messages: "[[message]]\ntext = \"hi\"\n",
@@ -297,7 +302,7 @@ const FRAMED: [Framed; 14] = [
 ];
 
 // What is wrong with words, a file or bytes.
-const REFUSED: [Row<'static>; 14] = [
+static REFUSED: [Row<'static>; 14] = [
     Row {
         words: &["frame"],
         err: "taps: usage\n",
@@ -422,9 +427,8 @@ fn long_row(bytes: &[u8]) -> Row<'_> {
 
 // Hears the bytes in each cutting.
 fn is_heard<R: Abort>(rt: &R, alloc: Global, heard: &Heard) -> Result<(), Fail> {
-    for piece in PIECES {
-        let exchange = format!(in alloc; "[exchange]\npiece = {piece}\n")?;
-        let file = file_with(alloc, heard.framers, &exchange)?;
+    for exchange in &EXCHANGES {
+        let file = file_with(alloc, heard.framers, exchange)?;
         let row = unframe_row(&file, heard.bytes, heard.out, heard.code);
         holds(rt, alloc, &row)?;
     }
@@ -482,20 +486,46 @@ fn long_lines_are_bad(rt: HostRuntime) -> Result<(), Fail> {
     holds(&rt, alloc, &row)
 }
 
-// The greatest number of bytes, and one more.
+// The greatest number of bytes.
 #[test]
-fn too_many_bytes_are_refused(rt: HostRuntime) -> Result<(), Fail> {
+fn the_most_bytes_are_heard(rt: HostRuntime) -> Result<(), Fail> {
     let alloc = rt.alloc();
     let file = file_with(alloc, "\"netstring\"", "")?;
     let most = vec![in alloc; b'0'; 4_194_304]?;
-    holds(
-        &rt,
-        alloc,
-        &unframe_row(&file, &most, "bad-frame 0 0 1\n", 5),
-    )?;
-    let more = vec![in alloc; b'0'; 4_194_305]?;
-    holds(&rt, alloc, &long_row(&more))
+    let row = unframe_row(&file, &most, "bad-frame 0 0 1\n", 5);
+    holds(&rt, alloc, &row)
 }
+
+// One more.
+#[test]
+fn too_many_bytes_are_refused(rt: HostRuntime) -> Result<(), Fail> {
+    let more = vec![in rt.alloc(); b'0'; 4_194_305]?;
+    holds(&rt, rt.alloc(), &long_row(&more))
+}
+
+// Rows of a shelf on which two framers have one name.
+static FIRST_TAKEN: [Row<'static>; 2] = [
+    Row {
+        bytes: b"framers = [\"tag\", \"tag\"]
+[[remote]]
+address = \"127.0.0.1:9000\"
+[[message]]
+text = \"hi\"
+",
+        out: "0100050100026869\n",
+        ..FRAME
+    },
+    Row {
+        bytes: b"framers = [\"tag\", \"tag\"]
+[[remote]]
+address = \"127.0.0.1:9000\"
+",
+        script: b"\x01\0\x03\x01\0\0\x02",
+        out: "message 0 -\nbad-frame 1 0 0\n",
+        code: 5,
+        ..UNFRAME
+    },
+];
 
 #[test]
 fn the_first_of_a_name_is_taken(rt: HostRuntime) -> Result<(), Fail> {
@@ -504,29 +534,32 @@ fn the_first_of_a_name_is_taken(rt: HostRuntime) -> Result<(), Fail> {
     shelf.push(Box::new(alloc, Tag { kind: 1 })?)?;
     shelf.push(Box::new(alloc, Tag { kind: 2 })?)?;
     assert_eq!(rt; shelf.len(), 2);
-    let file = file_with(alloc, "\"tag\", \"tag\"", "[[message]]\ntext = \"hi\"\n")?;
-    let framed = frame_row(&file, "0100050100026869\n", 0);
-    holds_on(&rt, alloc, &framed, &shelf)?;
-    let out = "message 0 -\nbad-frame 1 0 0\n";
-    let heard = unframe_row(&file, b"\x01\0\x03\x01\0\0\x02", out, 5);
-    holds_on(&rt, alloc, &heard, &shelf)
+    for row in &FIRST_TAKEN {
+        holds_on(&rt, alloc, row, &shelf)?;
+    }
+    Ok(())
 }
 
-#[test]
-fn nothing_is_on_an_empty_shelf(rt: HostRuntime) -> Result<(), Fail> {
-    let alloc = rt.alloc();
-    let shelf: Vec<Box<dyn Framer>> = Vec::new(alloc);
-    let row = Row {
+// Rows of a shelf on which nothing is.
+static NO_SHELF: [Row<'static>; 2] = [
+    Row {
         bytes: b"framers = [\"len16\"]\n[[remote]]\naddress = \"127.0.0.1:9000\"\n",
         err: "taps: refused a.toml: unknown framer framers[0]\n",
         code: 3,
         ..FRAME
-    };
-    holds_on(&rt, alloc, &row, &shelf)?;
-    let heard = Row {
+    },
+    Row {
         script: b"hi",
         out: "message 0 6869\nrest 0\n",
         ..UNFRAME
-    };
-    holds_on(&rt, alloc, &heard, &shelf)
+    },
+];
+
+#[test]
+fn nothing_is_on_an_empty_shelf(rt: HostRuntime) -> Result<(), Fail> {
+    let shelf: Vec<Box<dyn Framer>> = Vec::new(rt.alloc());
+    for row in &NO_SHELF {
+        holds_on(&rt, rt.alloc(), row, &shelf)?;
+    }
+    Ok(())
 }

@@ -29,7 +29,7 @@ use taps_frames::{Len32, Netstring};
 //                     broke += 1; live -= 1
 //                 else: clock = until
 //     for n in (0, 1, 7, 4294967295): print(n, counts(n))
-const SUMMARIES: [Row<'static>; 4] = [
+static SUMMARIES: [Row<'static>; 4] = [
     Row {
         words: &["gen", "0"],
         out: "gen 0\nleaves 512\nattempts 512\nrefused 166\nbroke 170\nwaits 666\nready 511\nreceived 256\ndone\n",
@@ -59,7 +59,7 @@ const USAGE: Row<'static> = Row {
 };
 
 // Arguments that are no command, and an output that takes too little.
-const OTHERS: [Row<'static>; 11] = [
+static OTHERS: [Row<'static>; 11] = [
     Row {
         words: &["gen", "07"],
         ..USAGE

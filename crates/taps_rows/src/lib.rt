@@ -12,6 +12,10 @@ mod frame_rows;
 #[cfg(test)]
 mod gen_rows;
 #[cfg(test)]
+mod group_rows;
+#[cfg(test)]
+mod hostile_rows;
+#[cfg(test)]
 mod memory_rows;
 #[cfg(test)]
 mod pair_rows;

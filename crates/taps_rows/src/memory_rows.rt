@@ -1,10 +1,9 @@
 // Sessions of `run` over sockets in memory.
-use crate::row::{nine, owned};
+use crate::plan_rows::PLAIN;
+use crate::row::{Row, nine, prints};
 use std::alloc::Global;
 use std::process::Abort;
 use std::test::Fail;
-use taps_app::run;
-use taps_base::{MemoryFiles, MemorySink};
 use taps_memory::MemoryNet;
 use taps_socket::Item;
 
@@ -25,7 +24,7 @@ const LISTENER: MemoryRow<'static> = MemoryRow {
 };
 
 // Nobody comes to a listener that is alone.
-const LISTENERS: [MemoryRow<'static>; 6] = [
+static LISTENERS: [MemoryRow<'static>; 6] = [
     LISTENER,
     MemoryRow {
         bytes: b"[[local]]\naddress = \"127.0.0.1:9000\"\n[exchange]\nrole = \"listen\"\nconnections = 16\nexpect = 2\n",
@@ -57,7 +56,7 @@ const LISTENERS: [MemoryRow<'static>; 6] = [
 ];
 
 // Both ends in one program.
-const BOTH_ENDS: [MemoryRow<'static>; 4] = [
+static BOTH_ENDS: [MemoryRow<'static>; 4] = [
     MemoryRow {
         bytes: b"framers = [\"len16\"]\n[[local]]\naddress = \"127.0.0.1:9000\"\n[[remote]]\naddress = \"127.0.0.1:9000\"\n[[message]]\ntext = \"a\"\n[[message]]\ntext = \"b\"\n[exchange]\nrole = \"loop\"\n",
         out: "leaves 1\n0 any tcp 127.0.0.1:9000 +0\nlisten 0 127.0.0.1:9000 at 0\nbegin 0\nstart 0 socket 1 at 0\nwait 30000 completed 1 at 0\nready 0\naccept 2 from 0 at 0\nclose 1\nclose 2\nclose 0\nsent 0 2\nsent 1 0\nreceived 1 0 61\nreceived 1 1 62\ndone\n",
@@ -89,20 +88,20 @@ const BOTH_ENDS: [MemoryRow<'static>; 4] = [
 
 fn runs<R: Abort>(rt: &R, alloc: Global, row: &MemoryRow<'_>) -> Result<(), Fail> {
     let shelf = nine(alloc)?;
-    let words = owned(alloc, &["run", "a.toml"])?;
-    let mut files = MemoryFiles::new(alloc, &[])?;
-    files.add("a.toml", row.bytes)?;
-    let mut out = MemorySink::new(alloc, 1000, None)?;
-    let mut err = MemorySink::new(alloc, 200, None)?;
     let mut net = MemoryNet::new(alloc, 1, 4, row.faults)?;
-    let status = run(
-        alloc, &words, &mut files, &mut out, &mut err, &mut net, &shelf,
-    );
-    assert_eq!(rt; str::from_utf8(out.bytes()), Ok(row.out));
-    assert_eq!(rt; status.code(), row.code);
-    assert!(rt; err.bytes().is_empty());
+    prints(rt, alloc, &row_of(row), &shelf, &mut net)?;
     assert_eq!(rt; count_opened(net.items()), count_closed(net.items()));
     Ok(())
+}
+
+fn row_of<'a>(row: &MemoryRow<'a>) -> Row<'a> {
+    Row {
+        words: &["run", "a.toml"],
+        bytes: row.bytes,
+        out: row.out,
+        code: row.code,
+        ..PLAIN
+    }
 }
 
 fn count_opened(items: &[Item]) -> usize {

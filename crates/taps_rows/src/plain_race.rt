@@ -50,15 +50,20 @@ struct Race {
     log: String,
 }
 
-/// The log behind the plan, and the status. A race of two leaves takes at most seven steps.
-pub fn told(alloc: Global, times: Times, fates: [Fate; 2]) -> Result<(String, u8), AllocError> {
+/// The plan and the log behind it, and the status. A race of two leaves takes at most seven steps.
+pub fn told(
+    alloc: Global,
+    plan: &str,
+    times: Times,
+    fates: [Fate; 2],
+) -> Result<(String, u8), AllocError> {
     let [first, second] = fates;
     let mut race = Race {
         times,
         first: unattempted(0, 0, first),
         second: unattempted(1, u8::from(first != Fate::Refuses), second),
         clock: 0,
-        log: String::from_str(alloc, "begin 0\n")?,
+        log: format!(in alloc; "{plan}begin 0\n")?,
     };
     for _ in 0..7 {
         if let Some(code) = race.step()? {

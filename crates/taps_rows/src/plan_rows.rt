@@ -46,7 +46,7 @@ const OUTPUT_FAULT: Row<'static> = Row {
     ..PLAIN
 };
 
-const ROWS: [Row<'static>; 17] = [
+static ROWS: [Row<'static>; 17] = [
     Row { out: PLAN, ..PLAIN },
     OUTPUT_FAULT,
     Row {

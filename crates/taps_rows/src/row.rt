@@ -1,14 +1,14 @@
-ghost use Rattle.std.specs.Prelude.{◌≡◌, ◌≤◌, length, IfOk};
+ghost use Rattle.std.specs.Prelude.{◌≡◌, ◌≤◌, [], length, IfOk};
 
 use std::alloc::{AllocError, Global};
 use std::process::Abort;
 use std::test::Fail;
-use taps_app::run;
-use taps_base::{MemoryFiles, MemorySink};
+use taps_app::{Status, run};
+use taps_base::{MemoryFiles, MemorySink, NoMemory};
 use taps_framer::Framer;
 use taps_frames::{Counted, Len16, Len32, Line, Netstring, Seq, Stuffed, Tag, Varint};
 use taps_script::ScriptSockets;
-use taps_socket::Item;
+use taps_socket::{Item, Sockets};
 
 /// What a row changes of the plain call of `plan a.toml`, and what it is to give.
 #[derive(Clone, Copy)]
@@ -60,23 +60,56 @@ pub fn holds_on<R: Abort>(
 ) -> Result<(), Fail>
     requires { length shelf.now.items ≤ 64 }
 {
-    let words = owned(alloc, row.words)?;
-    let mut files = MemoryFiles::new(alloc, row.faults)?;
-    files.add(row.held, row.bytes)?;
-    files.add(row.script_held, row.script)?;
+    let mut net = ScriptSockets::read(alloc, row.net)?;
+    prints(rt, alloc, row, shelf, &mut net)?;
+    assert_eq!(rt; net.items().is_empty(), !is_raced(row));
+    assert!(rt; each_is_closed_once(net.items()));
+    Ok(())
+}
+
+/// Runs a row over these sockets and looks at its output, its error output and its status.
+pub fn prints<R: Abort, N: Sockets>(
+    rt: &R,
+    alloc: Global,
+    row: &Row<'_>,
+    shelf: &Vec<Box<dyn Framer>>,
+    net: &mut N,
+) -> Result<(), Fail>
+    requires shelf { length shelf.now.items ≤ 64 }
+    requires fresh { (N.net net.old).trace ≡ [] }
+{
     let mut out = MemorySink::new(alloc, row.capacity, None)?;
     let mut err = MemorySink::new(alloc, 200, row.err_fails)?;
-    let mut net = ScriptSockets::read(alloc, row.net)?;
-    let status = run(
-        alloc, &words, &mut files, &mut out, &mut err, &mut net, shelf,
-    );
+    let status = status_of(alloc, row, &mut out, &mut err, net, shelf)?;
     assert_eq!(rt; status.code(), row.code);
     let script = str::from_utf8(row.script);
     assert_eq!(rt; str::from_utf8(out.bytes()), Ok(row.out), "by {script:?}");
     assert_eq!(rt; str::from_utf8(err.bytes()), Ok(row.err), "by {script:?}");
-    assert_eq!(rt; net.items().is_empty(), !is_raced(row));
-    assert!(rt; each_is_closed_once(net.items()));
     Ok(())
+}
+
+/// The status of a row's call with these outputs and sockets.
+pub fn status_of<N: Sockets>(
+    alloc: Global,
+    row: &Row<'_>,
+    out: &mut MemorySink,
+    err: &mut MemorySink,
+    net: &mut N,
+    shelf: &Vec<Box<dyn Framer>>,
+) -> Result<Status, NoMemory>
+    requires shelf { length shelf.now.items ≤ 64 }
+    requires fresh { (N.net net.old).trace ≡ [] }
+{
+    let words = owned(alloc, row.words)?;
+    let mut files = files_of(alloc, row)?;
+    Ok(run(alloc, &words, &mut files, out, err, net, shelf))
+}
+
+fn files_of(alloc: Global, row: &Row<'_>) -> Result<MemoryFiles, NoMemory> {
+    let mut files = MemoryFiles::new(alloc, row.faults)?;
+    files.add(row.held, row.bytes)?;
+    files.add(row.script_held, row.script)?;
+    Ok(files)
 }
 
 /// The words as a command line has them.

@@ -1,62 +1,9 @@
-use crate::plan_rows::PLAIN;
 use crate::row::{Row, holds};
 use crate::sim_rows::{SILENT, SIM};
 use std::test::Fail;
 
-const NOT_YET: Row<'static> = Row {
-    err: "taps: refused a.toml: not yet\n",
-    code: 3,
-    ..SIM
-};
-
-// Files that ask for what cannot be held yet, which a plan does not ask.
-const EARLY: [Row<'static>; 9] = [
-    Row {
-        bytes: b"[[remote]]\naddress = \"127.0.0.1:9000\"\n[exchange]\nclones = 1\n",
-        ..NOT_YET
-    },
-    Row {
-        bytes: b"[[remote]]\naddress = \"127.0.0.1:9000\"\n[exchange]\npriorities = [1]\n",
-        ..NOT_YET
-    },
-    Row {
-        words: &["run", "a.toml"],
-        bytes: b"[[remote]]\naddress = \"127.0.0.1:9000\"\n[exchange]\nrole = \"loop\"\npriorities = [1]\n",
-        ..NOT_YET
-    },
-    Row {
-        bytes: b"framers = [\"nope\"]\n[[remote]]\naddress = \"127.0.0.1:9000\"\n[exchange]\nclones = 1\n",
-        ..NOT_YET
-    },
-    Row {
-        words: &["run", "a.toml"],
-        bytes: b"[exchange]\nrole = \"listen\"\npriorities = [1]\n",
-        ..NOT_YET
-    },
-    Row {
-        words: &["run", "a.toml"],
-        bytes: b"[[remote]]\naddress = \"127.0.0.1:9000\"\n[exchange]\nclones = 1\n",
-        ..NOT_YET
-    },
-    Row {
-        words: &["run", "a.toml"],
-        bytes: b"[[remote]]\naddress = \"127.0.0.1:9000\"\n[exchange]\npriorities = [1]\n",
-        ..NOT_YET
-    },
-    Row {
-        bytes: b"[[remote]]\naddress = \"127.0.0.1:9000\"\n[exchange]\nclones = 1\n",
-        faults: &[1],
-        ..NOT_YET
-    },
-    Row {
-        bytes: b"[[remote]]\naddress = \"127.0.0.1:9000\"\n[exchange]\nclones = 1\n",
-        out: "leaves 1\n0 any tcp 127.0.0.1:9000 +0\n",
-        ..PLAIN
-    },
-];
-
 // What is not read, or not taken, of two files. The second is read where the first is in order.
-const READS: [Row<'static>; 19] = [
+static READS: [Row<'static>; 19] = [
     Row {
         words: &["sim", "a.toml", "b.txt"],
         err: "taps: file fault b.txt\n",
@@ -178,7 +125,7 @@ const READS: [Row<'static>; 19] = [
 ];
 
 // Scripts, and what is said of their first bad line.
-const BAD: [(&[u8], &str); 44] = [
+static BAD: [(&[u8], &str); 44] = [
     (
         b"leaf 0 refuses refused\nleaf 1 refuses unreachable\nleaf 1 silent\n",
         "taps: refused s.txt: script line 3\n",
@@ -283,16 +230,7 @@ const BAD: [(&[u8], &str); 44] = [
 ];
 
 // Scripts by which nothing answers.
-const EMPTY: [&[u8]; 5] = [b"", b"\n", b"#", b"peer echo\n", b"take 1\n"];
-
-#[test]
-fn files_are_refused_for_now(rt: HostRuntime) -> Result<(), Fail> {
-    let alloc = rt.alloc();
-    for row in &EARLY {
-        holds(&rt, alloc, row)?;
-    }
-    Ok(())
-}
+static EMPTY: [&[u8]; 5] = [b"", b"\n", b"#", b"peer echo\n", b"take 1\n"];
 
 #[test]
 fn two_files_are_read(rt: HostRuntime) -> Result<(), Fail> {
@@ -335,20 +273,23 @@ fn scripts_are_refused(rt: HostRuntime) -> Result<(), Fail> {
     Ok(())
 }
 
+// A byte, how many of them are a script, and why it is refused, if it is.
+static LONG: [(u8, usize, Option<&str>); 4] = [
+    (b'\n', 4096, None),
+    (b'\n', 4097, Some("taps: refused s.txt: script line 4097\n")),
+    (b'#', 1_048_576, None),
+    (b'#', 1_048_577, Some("taps: refused s.txt: too long\n")),
+];
+
 #[test]
 fn long_scripts_are_refused(rt: HostRuntime) -> Result<(), Fail> {
-    let alloc = rt.alloc();
-    let lines = vec![in alloc; b'\n'; 4096]?;
-    holds(&rt, alloc, &silent(&lines))?;
-    let lines = vec![in alloc; b'\n'; 4097]?;
-    let past_the_last = "taps: refused s.txt: script line 4097\n";
-    holds(&rt, alloc, &refused(&lines, past_the_last))?;
-    let bytes = vec![in alloc; b'#'; 1_048_576]?;
-    holds(&rt, alloc, &silent(&bytes))?;
-    let bytes = vec![in alloc; b'#'; 1_048_577]?;
-    holds(
-        &rt,
-        alloc,
-        &refused(&bytes, "taps: refused s.txt: too long\n"),
-    )
+    for (byte, count, err) in &LONG {
+        let script = vec![in rt.alloc(); *byte; *count]?;
+        let row = match err {
+            Some(err) => refused(&script, err),
+            None => silent(&script),
+        };
+        holds(&rt, rt.alloc(), &row)?;
+    }
+    Ok(())
 }

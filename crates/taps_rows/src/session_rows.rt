@@ -5,7 +5,7 @@ use std::test::Fail;
 
 // Five sessions, each as it is, and asking for one byte at once, and by sockets that take and give one
 // byte at once: what is printed is the same.
-const SESSIONS: [Row<'static>; 20] = [
+static SESSIONS: [Row<'static>; 20] = [
     Row {
         bytes: b"framers = [\"varint\"]\n[[remote]]\naddress = \"127.0.0.1:9000\"\n[[message]]\ntext = \"hi\"\n[exchange]\nexpect = 1\n",
         script: b"leaf 0 completes 5\npeer echo\n",
@@ -141,7 +141,7 @@ const SESSIONS: [Row<'static>; 20] = [
 ];
 
 // Datagrams, streams without framers, and ends of other kinds.
-const OTHERS: [Row<'static>; 8] = [
+static OTHERS: [Row<'static>; 8] = [
     Row {
         bytes: b"profile = \"unreliable-datagram\"\n[[remote]]\naddress = \"127.0.0.1:9000\"\n[[message]]\ntext = \"ping\"\n[exchange]\nexpect = 1\n",
         script: b"leaf 0 completes 0\npeer echo\n",
@@ -198,7 +198,7 @@ const OTHERS: [Row<'static>; 8] = [
 ];
 
 // The same session over sockets that are handed in.
-const RUNS: [Row<'static>; 3] = [
+static RUNS: [Row<'static>; 3] = [
     Row {
         words: &["run", "a.toml"],
         bytes: b"framers = [\"varint\"]\n[[remote]]\naddress = \"127.0.0.1:9000\"\n[[message]]\ntext = \"hi\"\n[exchange]\nexpect = 1\n",

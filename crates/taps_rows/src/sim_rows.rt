@@ -33,7 +33,7 @@ const RUN: Row<'static> = Row {
 };
 
 // Races by a script, with the logs of their sessions.
-const RACES: [Row<'static>; 23] = [
+static RACES: [Row<'static>; 23] = [
     Row {
         bytes: b"profile = \"reliable-message\"\n[[remote]]\naddress = \"127.0.0.1:9000\"\n",
         out: "leaves 0\nbegin 0\nestablishment-error no-candidate\n",
@@ -180,7 +180,7 @@ const RACES: [Row<'static>; 23] = [
 ];
 
 // Races on the sockets that are handed in. No script is read.
-const RUNS: [Row<'static>; 7] = [
+static RUNS: [Row<'static>; 7] = [
     Row {
         bytes: TWO,
         net: b"leaf 1 completes 60\n",
@@ -228,7 +228,7 @@ const RUNS: [Row<'static>; 7] = [
 ];
 
 // Logs that the output does not take, whatever the status would have been.
-const OUTPUTS: [Row<'static>; 6] = [
+static OUTPUTS: [Row<'static>; 6] = [
     Row {
         bytes: TWO,
         script: b"leaf 1 completes 60\n",

@@ -22,76 +22,133 @@ const FATES: [Fate; 12] = [
     Fate::Breaks(290),
 ];
 
-const CANCELS: [Option<u64>; 2] = [None, Some(250)];
-
 const DELAYS: [u64; 2] = [0, 7];
 
-const TIMEOUT: u64 = 500;
-
-/// A mode: its word, the gap before the second leaf, and how a plan prints it.
-#[derive(Clone, Copy)]
+/// A mode: the gap before the second leaf, the plan, and the file of a race without a moment at which
+/// the application gives up, and with it.
 struct Mode {
-    word: &'static str,
     gap: Option<u64>,
-    text: &'static str,
+    plan: &'static str,
+    file: &'static [u8],
+    cancelled: &'static [u8],
 }
 
-const SIMULTANEOUS: Mode = Mode {
-    word: "simultaneous",
+static SIMULTANEOUS: Mode = Mode {
     gap: Some(0),
-    text: "0",
+    plan: "leaves 2\n0 any tcp 127.0.0.1:9000 +0\n1 any tcp 127.0.0.2:9000 +0\n",
+    file: b"[[remote]]
+address = \"127.0.0.1:9000\"
+[[remote]]
+address = \"127.0.0.2:9000\"
+[race]
+mode = \"simultaneous\"
+timeout_ms = 500
+",
+    cancelled: b"[[remote]]
+address = \"127.0.0.1:9000\"
+[[remote]]
+address = \"127.0.0.2:9000\"
+[race]
+mode = \"simultaneous\"
+timeout_ms = 500
+cancel_ms = 250
+",
 };
 
-const STAGGERED: Mode = Mode {
-    word: "staggered",
+static STAGGERED: Mode = Mode {
     gap: Some(250),
-    text: "250",
+    plan: "leaves 2\n0 any tcp 127.0.0.1:9000 +0\n1 any tcp 127.0.0.2:9000 +250\n",
+    file: b"[[remote]]
+address = \"127.0.0.1:9000\"
+[[remote]]
+address = \"127.0.0.2:9000\"
+[race]
+mode = \"staggered\"
+timeout_ms = 500
+",
+    cancelled: b"[[remote]]
+address = \"127.0.0.1:9000\"
+[[remote]]
+address = \"127.0.0.2:9000\"
+[race]
+mode = \"staggered\"
+timeout_ms = 500
+cancel_ms = 250
+",
 };
 
-const FAILOVER: Mode = Mode {
-    word: "failover",
+static FAILOVER: Mode = Mode {
     gap: None,
-    text: "none",
+    plan: "leaves 2\n0 any tcp 127.0.0.1:9000 +0\n1 any tcp 127.0.0.2:9000 +none\n",
+    file: b"[[remote]]
+address = \"127.0.0.1:9000\"
+[[remote]]
+address = \"127.0.0.2:9000\"
+[race]
+mode = \"failover\"
+timeout_ms = 500
+",
+    cancelled: b"[[remote]]
+address = \"127.0.0.1:9000\"
+[[remote]]
+address = \"127.0.0.2:9000\"
+[race]
+mode = \"failover\"
+timeout_ms = 500
+cancel_ms = 250
+",
 };
 
 #[test]
 fn simultaneous_races(rt: HostRuntime) -> Result<(), Fail> {
-    sweep(&rt, rt.alloc(), SIMULTANEOUS)
+    sweep(&rt, rt.alloc(), &SIMULTANEOUS)
 }
 
 #[test]
 fn staggered_races(rt: HostRuntime) -> Result<(), Fail> {
-    sweep(&rt, rt.alloc(), STAGGERED)
+    sweep(&rt, rt.alloc(), &STAGGERED)
 }
 
 #[test]
 fn failover_races(rt: HostRuntime) -> Result<(), Fail> {
-    sweep(&rt, rt.alloc(), FAILOVER)
+    sweep(&rt, rt.alloc(), &FAILOVER)
 }
 
 // The mode at all moments.
-fn sweep<R: Abort>(rt: &R, alloc: Global, mode: Mode) -> Result<(), Fail> {
-    for cancel in CANCELS {
-        for late in DELAYS {
-            let times = Times {
-                gap: mode.gap,
-                cancel,
-                timeout: TIMEOUT,
-                late,
-            };
-            sweep_fates(rt, alloc, mode, times)?;
-        }
+fn sweep<R: Abort>(rt: &R, alloc: Global, mode: &Mode) -> Result<(), Fail> {
+    for late in DELAYS {
+        sweep_fates(rt, alloc, mode, mode.file, times(mode, None, late))?;
+        sweep_fates(
+            rt,
+            alloc,
+            mode,
+            mode.cancelled,
+            times(mode, Some(250), late),
+        )?;
     }
     Ok(())
 }
 
+fn times(mode: &Mode, cancel: Option<u64>, late: u64) -> Times {
+    Times {
+        gap: mode.gap,
+        cancel,
+        timeout: 500,
+        late,
+    }
+}
+
 // All fates of the two leaves.
-fn sweep_fates<R: Abort>(rt: &R, alloc: Global, mode: Mode, times: Times) -> Result<(), Fail> {
-    let file = file(alloc, mode, times)?;
-    let plan = plan(alloc, mode)?;
+fn sweep_fates<R: Abort>(
+    rt: &R,
+    alloc: Global,
+    mode: &Mode,
+    file: &[u8],
+    times: Times,
+) -> Result<(), Fail> {
     for first in FATES {
         for second in FATES {
-            agrees(rt, alloc, &file, &plan, times, [first, second])?;
+            agrees(rt, alloc, mode.plan, file, times, [first, second])?;
         }
     }
     Ok(())
@@ -101,19 +158,14 @@ fn sweep_fates<R: Abort>(rt: &R, alloc: Global, mode: Mode, times: Times) -> Res
 fn agrees<R: Abort>(
     rt: &R,
     alloc: Global,
-    file: &str,
     plan: &str,
+    file: &[u8],
     times: Times,
     fates: [Fate; 2],
 ) -> Result<(), Fail> {
     let script = script(alloc, times, fates)?;
-    let (log, code) = told(alloc, times, fates)?;
-    let out = format!(in alloc; "{plan}{log}")?;
-    holds(
-        rt,
-        alloc,
-        &row_of(file.as_bytes(), script.as_bytes(), &out, code),
-    )
+    let (out, code) = told(alloc, plan, times, fates)?;
+    holds(rt, alloc, &row_of(file, script.as_bytes(), &out, code))
 }
 
 fn row_of<'a>(bytes: &'a [u8], script: &'a [u8], out: &'a str, code: u8) -> Row<'a> {
@@ -124,26 +176,6 @@ fn row_of<'a>(bytes: &'a [u8], script: &'a [u8], out: &'a str, code: u8) -> Row<
         code,
         ..SIM
     }
-}
-
-fn file(alloc: Global, mode: Mode, times: Times) -> Result<String, AllocError> {
-    let mut text = String::from_str(
-        alloc,
-        "[[remote]]\naddress = \"127.0.0.1:9000\"\n[[remote]]\naddress = \"127.0.0.2:9000\"\n[race]\n",
-    )?;
-    writeln!(text, "mode = \"{}\"", mode.word)?;
-    writeln!(text, "timeout_ms = {}", times.timeout)?;
-    if let Some(cancel) = times.cancel {
-        writeln!(text, "cancel_ms = {cancel}")?;
-    }
-    Ok(text)
-}
-
-fn plan(alloc: Global, mode: Mode) -> Result<String, AllocError> {
-    format!(in alloc;
-        "leaves 2\n0 any tcp 127.0.0.1:9000 +0\n1 any tcp 127.0.0.2:9000 +{}\n",
-        mode.text
-    )
 }
 
 fn script(alloc: Global, times: Times, fates: [Fate; 2]) -> Result<String, AllocError> {

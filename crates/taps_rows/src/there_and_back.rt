@@ -1,12 +1,12 @@
 // What is framed is heard again, through chains of framers.
-use crate::frame_rows::{FRAME, file_with, unframe_row};
-use crate::row::{holds, nine, owned};
+use crate::frame_rows::{file_with, frame_row, unframe_row};
+use crate::row::{holds, nine, status_of};
 use std::alloc::{AllocError, Global};
 use std::process::Abort;
 use std::test::Fail;
-use taps_app::run;
-use taps_base::{MemoryFiles, MemorySink};
-use taps_script::ScriptSockets;
+use taps_app::Status;
+use taps_base::{MemorySink, NoMemory};
+use taps_memory::MemoryNet;
 
 const SHORT: &[usize] = &[0, 1, 255, 256];
 
@@ -17,7 +17,7 @@ const LONG: &[usize] = &[0, 1, 255, 256, 65_535];
 const LONGEST: &[usize] = &[0, 1, 255, 256, 65_535, 65_536];
 
 // Each framer, with those of the six lengths that it speaks.
-const SINGLE: [(&str, &[usize]); 9] = [
+static SINGLE: [(&str, &[usize]); 9] = [
     ("\"len16\"", LONG),
     ("\"len32\"", LONGEST),
     ("\"varint\"", LONGEST),
@@ -30,7 +30,7 @@ const SINGLE: [(&str, &[usize]); 9] = [
 ];
 
 // Chains in which a frame of the longer ones is too long for the layer around it.
-const SHORT_CHAINS: [(&str, &[usize]); 10] = [
+static SHORT_CHAINS: [(&str, &[usize]); 10] = [
     ("\"len16\", \"netstring\"", SHORT),
     ("\"netstring\", \"len16\"", SHORT),
     ("\"stuffed\", \"varint\"", SHORT),
@@ -44,7 +44,7 @@ const SHORT_CHAINS: [(&str, &[usize]); 10] = [
 ];
 
 // Chains that speak the longer ones too.
-const LONG_CHAINS: [(&str, &[usize]); 10] = [
+static LONG_CHAINS: [(&str, &[usize]); 10] = [
     ("\"len32\", \"line\"", LONG),
     ("\"varint\", \"stuffed\"", LONG),
     ("\"seq\", \"netstring\"", LONG),
@@ -95,19 +95,23 @@ fn heard(alloc: Global, lengths: &[usize]) -> Result<String, AllocError> {
 }
 
 // What a file's messages are framed as.
-fn framed<R: Abort>(rt: &R, alloc: Global, file: &str) -> Result<Vec<u8>, Fail> {
-    let words = owned(alloc, FRAME.words)?;
-    let mut files = MemoryFiles::new(alloc, &[])?;
-    files.add(FRAME.held, file.as_bytes())?;
+fn framed<R: Abort>(rt: &R, alloc: Global, file: &str) -> Result<Vec<u8>, NoMemory> {
     let mut out = MemorySink::new(alloc, 1_000_000, None)?;
     let mut err = MemorySink::new(alloc, 200, None)?;
-    let mut net = ScriptSockets::read(alloc, b"")?;
-    let shelf = nine(alloc)?;
-    let status = run(
-        alloc, &words, &mut files, &mut out, &mut err, &mut net, &shelf,
-    );
-    assert_eq!(rt; status.code(), 0);
+    assert_eq!(rt; frame(alloc, file, &mut out, &mut err)?, Status::Done);
     Ok(bytes_of(alloc, out.bytes())?)
+}
+
+// Frames the messages of a file.
+fn frame(
+    alloc: Global,
+    file: &str,
+    out: &mut MemorySink,
+    err: &mut MemorySink,
+) -> Result<Status, NoMemory> {
+    let mut net = MemoryNet::new(alloc, 1, 1, &[])?;
+    let shelf = nine(alloc)?;
+    status_of(alloc, &frame_row(file, "", 0), out, err, &mut net, &shelf)
 }
 
 // The bytes that lines of digits stand for.
@@ -141,16 +145,22 @@ fn comes_back<R: Abort>(
     framers: &str,
     lengths: &[usize],
 ) -> Result<(), Fail> {
-    let file = file_with(alloc, framers, &messages(alloc, lengths)?)?;
-    let bytes = framed(rt, alloc, &file)?;
+    let messages = messages(alloc, lengths)?;
+    let file = file_with(alloc, framers, &messages)?;
+    is_heard(rt, alloc, &file, lengths)
+}
+
+// What the messages of the file are framed as is heard as messages of these lengths.
+fn is_heard<R: Abort>(rt: &R, alloc: Global, file: &str, lengths: &[usize]) -> Result<(), Fail> {
+    let bytes = framed(rt, alloc, file)?;
     let out = heard(alloc, lengths)?;
-    holds(rt, alloc, &unframe_row(&file, &bytes, &out, 0))
+    holds(rt, alloc, &unframe_row(file, &bytes, &out, 0))
 }
 
 #[test]
 fn through_one_framer(rt: HostRuntime) -> Result<(), Fail> {
     let alloc = rt.alloc();
-    for (framers, lengths) in SINGLE {
+    for (framers, lengths) in &SINGLE {
         comes_back(&rt, alloc, framers, lengths)?;
     }
     Ok(())
@@ -159,7 +169,7 @@ fn through_one_framer(rt: HostRuntime) -> Result<(), Fail> {
 #[test]
 fn through_chains(rt: HostRuntime) -> Result<(), Fail> {
     let alloc = rt.alloc();
-    for (framers, lengths) in SHORT_CHAINS {
+    for (framers, lengths) in &SHORT_CHAINS {
         comes_back(&rt, alloc, framers, lengths)?;
     }
     Ok(())
@@ -168,7 +178,7 @@ fn through_chains(rt: HostRuntime) -> Result<(), Fail> {
 #[test]
 fn through_chains_of_long_frames(rt: HostRuntime) -> Result<(), Fail> {
     let alloc = rt.alloc();
-    for (framers, lengths) in LONG_CHAINS {
+    for (framers, lengths) in &LONG_CHAINS {
         comes_back(&rt, alloc, framers, lengths)?;
     }
     Ok(())

@@ -1,13 +1,17 @@
-ghost use Rattle.std.specs.Prelude.{◌≡◌, [], IfOk};
+ghost use Rattle.std.specs.Prelude.{◌≡◌, ◌≤◌, [], length, IfOk};
 
-use crate::row::{each_is_closed_once, nine, owned};
+use crate::plan_rows::PLAIN;
+use crate::row::{Row, each_is_closed_once, nine, status_of};
 use crate::sim_rows::{LATE_WINNER, TWO};
 use std::alloc::Global;
 use std::process::Abort;
+use std::rt::Runtime;
 use std::test::Fail;
-use taps_app::{Status, run};
-use taps_base::{MemoryFiles, MemorySink, NoMemory};
+use taps_app::Status;
+use taps_base::{MemorySink, NoMemory};
+use taps_framer::Framer;
 use taps_script::{ScriptError, ScriptSockets};
+use taps_socket::Sockets;
 
 // What one run came to.
 #[derive(Clone, Copy)]
@@ -40,29 +44,47 @@ const ECHO: Case<'static> = Case {
 
 // A session on the sockets, which may find no memory at any place, and leaves no socket open.
 fn run_once<R: Abort>(rt: &R, alloc: Global, case: &Case<'_>) -> Result<Seen, NoMemory> {
-    let words = owned(alloc, &["run", "a.toml"])?;
-    let mut files = MemoryFiles::new(alloc, &[])?;
-    files.add("a.toml", case.file)?;
-    let mut out = MemorySink::new(alloc, 2000, None)?;
-    let mut err = MemorySink::new(alloc, 200, None)?;
     let mut net = sockets(rt, alloc, case.script)?;
     let shelf = nine(alloc)?;
-    let status = run(
-        alloc, &words, &mut files, &mut out, &mut err, &mut net, &shelf,
-    );
+    let status = run_over(rt, alloc, case, &shelf, &mut net)?;
     assert!(rt; each_is_closed_once(net.items()));
+    Ok(match status {
+        Status::Done => Seen::Answer,
+        _ if net.items().is_empty() => Seen::NoMemory,
+        _ => Seen::NoMemoryBehindTheRace,
+    })
+}
+
+// The status of the session, with the outputs that belong to it.
+fn run_over<R: Abort, N: Sockets>(
+    rt: &R,
+    alloc: Global,
+    case: &Case<'_>,
+    shelf: &Vec<Box<dyn Framer>>,
+    net: &mut N,
+) -> Result<Status, NoMemory>
+    requires shelf { length shelf.now.items ≤ 64 }
+    requires fresh { (N.net net.old).trace ≡ [] }
+{
+    let mut out = MemorySink::new(alloc, 2000, None)?;
+    let mut err = MemorySink::new(alloc, 200, None)?;
+    let status = status_of(alloc, &row_of(case), &mut out, &mut err, net, shelf)?;
     if status == Status::Done {
         assert_eq!(rt; out.bytes(), case.log.as_bytes());
         assert!(rt; err.bytes().is_empty());
-        return Ok(Seen::Answer);
-    }
-    assert_eq!(rt; status, Status::NoMemory);
-    assert!(rt; out.bytes().is_empty());
-    assert!(rt; is_line_or_none(err.bytes()));
-    if net.items().is_empty() {
-        Ok(Seen::NoMemory)
     } else {
-        Ok(Seen::NoMemoryBehindTheRace)
+        assert_eq!(rt; status, Status::NoMemory);
+        assert!(rt; out.bytes().is_empty());
+        assert!(rt; is_line_or_none(err.bytes()));
+    }
+    Ok(status)
+}
+
+fn row_of<'a>(case: &Case<'a>) -> Row<'a> {
+    Row {
+        words: &["run", "a.toml"],
+        bytes: case.file,
+        ..PLAIN
     }
 }
 
@@ -83,25 +105,21 @@ fn is_line_or_none(bytes: &[u8]) -> bool {
 }
 
 // Prints what was seen, for the check that lets each allocation fail.
-#[test]
-fn no_socket_is_left_open(rt: HostRuntime) -> Result<(), Fail> {
-    match run_once(&rt, rt.alloc(), &RACE) {
+fn tell<R: Abort + Runtime>(rt: &R, seen: Result<Seen, NoMemory>) -> Result<(), Fail> {
+    match seen {
         Ok(Seen::Answer) => println!(rt; "seen: answer")?,
-        Ok(Seen::NoMemory) => println!(rt; "seen: no memory")?,
         Ok(Seen::NoMemoryBehindTheRace) => println!(rt; "seen: no memory behind the race")?,
-        Err(NoMemory) => println!(rt; "seen: no memory")?,
+        Ok(Seen::NoMemory) | Err(NoMemory) => println!(rt; "seen: no memory")?,
     }
     Ok(())
 }
 
-// Prints what was seen, for the check that lets each allocation fail.
+#[test]
+fn no_socket_is_left_open(rt: HostRuntime) -> Result<(), Fail> {
+    tell(&rt, run_once(&rt, rt.alloc(), &RACE))
+}
+
 #[test]
 fn no_socket_is_left_open_by_an_exchange(rt: HostRuntime) -> Result<(), Fail> {
-    match run_once(&rt, rt.alloc(), &ECHO) {
-        Ok(Seen::Answer) => println!(rt; "seen: answer")?,
-        Ok(Seen::NoMemory) => println!(rt; "seen: no memory")?,
-        Ok(Seen::NoMemoryBehindTheRace) => println!(rt; "seen: no memory behind the race")?,
-        Err(NoMemory) => println!(rt; "seen: no memory")?,
-    }
-    Ok(())
+    tell(&rt, run_once(&rt, rt.alloc(), &ECHO))
 }

@@ -5,7 +5,7 @@ use Rattle.taps_table.specs.declared.pre_error.PreError.{PreError}
 use Rattle.taps_table.specs.declared.pre_error.PreError.TheVariants.{NotToml, UnknownKey, WrongKind, OutOfRange, BadAddress, BadHex, TooMany, NoRemote, NoMemory}
 use Rattle.taps_text.specs.Printed.{printed}
 use Rattle.taps_text.specs.declared.refusal.Refusal.{Refusal}
-use Rattle.taps_text.specs.declared.refusal.Refusal.TheVariants.{TooLong, File, NotYet, UnknownFramer, TooManyRemotes, Script}
+use Rattle.taps_text.specs.declared.refusal.Refusal.TheVariants.{TooLong, File, UnknownFramer, TooManyRemotes, Script}
 
 -- a key as it is printed
 abbrev pub shown : List ℕ → List ℕ
@@ -27,7 +27,6 @@ file_text NoMemory = []
 unfoldable pub refusal_text : Refusal → List ℕ
 refusal_text TooLong = codes "too long"
 refusal_text (File refused) = file_text refused
-refusal_text NotYet = codes "not yet"
 refusal_text (UnknownFramer place) = codes "unknown framer framers[" ++ (decimal place ++ codes "]")
 refusal_text (TooManyRemotes count) = codes "too many remote " ++ decimal count
 refusal_text (Script line) = codes "script line " ++ decimal line

@@ -13,8 +13,6 @@ pub enum Refusal {
     TooLong,
     /// It gives no Preconnection, for a reason other than out of memory.
     File(PreError),
-    /// It asks for what does not work so far.
-    NotYet,
     /// The framer at this place of its list is not there.
     UnknownFramer(u64),
     /// So many addresses are derived, more than 32.
@@ -31,7 +29,6 @@ pub(crate) fn append_refusal(line: &mut Vec<u8>, why: &Refusal) -> Result<(), No
     match why {
         Refusal::TooLong => append(line, b"too long"),
         Refusal::File(refused) => append_file(line, refused),
-        Refusal::NotYet => append(line, b"not yet"),
         Refusal::UnknownFramer(place) => append_parts(
             line,
             &[Number(b"unknown framer framers[", *place), Words(b"]")],

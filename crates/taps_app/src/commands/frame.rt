@@ -14,10 +14,6 @@ impl FileRules for Frame {
 
     ghost rules = { frame_rules };
 
-    fn supports(_pre: &Preconnection) -> bool {
-        true
-    }
-
     fn addresses(alloc: Global, _pre: &Preconnection) -> Result<List<Address>, Unready> {
         Ok(List::new(alloc))
     }

@@ -8,15 +8,11 @@ ghost use Rattle.taps_script.specs.ScriptNet.{at_first};
 ghost use Rattle.taps_text.specs.Generated.{generated_file, generated_script};
 ghost use Rattle.taps_text.specs.Summary.{summary_lines};
 ghost use Rattle.taps_app.specs.Gen as specs;
-ghost use Rattle.taps_app.specs.Gen.{generated, number_asked, IsSummedUp};
-ghost use Rattle.taps_app.specs.SessionLogs.{status_after};
+ghost use Rattle.taps_app.specs.Gen.{generated, number_asked, IsSummedUpSession};
+ghost use Rattle.taps_session.specs.SessionLogs.{status_after};
 ghost use Rattle.taps_app.specs.Sim.{AreAtFirst};
 
 use crate::commands::sim::{Sim, check_script};
-use crate::holding::hold;
-use crate::plan::initiate;
-use crate::session::Session;
-use crate::status::status_after;
 use std::alloc::Global;
 use taps_base::NoMemory;
 use taps_candidate::Plan;
@@ -24,6 +20,7 @@ use taps_command::{Layers, Maker, Printed, Ready, Shelf, TwoFiles, Unready, chec
 use taps_exchange::vouch_unique;
 use taps_framer::Framer;
 use taps_script::{ScriptSockets, number, vouch_for_script};
+use taps_session::{Session, hold_initiated, initiate, status_after};
 use taps_text::{MemberLog, Summary, put_generated_file, put_generated_script, put_summary};
 
 /// `gen NUMBER` makes a file and a script of the number, runs their session on scripted sockets, and
@@ -118,14 +115,14 @@ fn sum_up<L: Layers>(
     requires on_shelf { IsOnShelf L.layers ready.now.places }
     requires first { sockets ≡ at_first sockets.lines }
     ensures summed_up { IfOk result (λ printed.
-        IsSummedUp L.layers number ready.now sockets.lines printed.text.items printed.status) }
+        IsSummedUpSession L.layers number ready.now sockets.lines printed.text.items printed.status) }
     ensures has_text { IfOk result (λ printed. HasText printed.status) }
 {
     let mut sockets = sockets;
     vouch_for_script(&sockets);
     vouch_unique();
     let plan = initiate(alloc, ready)?;
-    match hold::<L, ScriptSockets>(alloc, shelf, ready, &plan, &mut sockets) {
+    match hold_initiated::<L, ScriptSockets>(alloc, shelf, ready, &plan, &mut sockets) {
         Ok(session) => match summary(alloc, number, &plan, &session) {
             Ok(printed) => Ok(printed),
             Err(none) => Err(none),

@@ -16,10 +16,6 @@ impl FileRules for Plan {
 
     ghost rules = { plan_rules };
 
-    fn supports(_pre: &Preconnection) -> bool {
-        true
-    }
-
     fn addresses(alloc: Global, pre: &Preconnection) -> Result<List<Address>, Unready> {
         derive(alloc, pre)
     }

@@ -1,11 +1,9 @@
-use crate::session_log::session_text;
 use std::alloc::Global;
 use taps_base::{List, NoMemory};
-use taps_command::{
-    FileRules, Layers, OneFile, Printed, Ready, Shelf, Unready, derive, has_one_member,
-};
+use taps_command::{FileRules, Layers, OneFile, Printed, Ready, Shelf, Unready, derive};
 use taps_endpoint::Address;
 use taps_preconnection::{Preconnection, RunRole};
+use taps_session::session_text;
 use taps_socket::Sockets;
 
 /// `run FILE` runs the file's session on the sockets, and writes its log.
@@ -15,10 +13,6 @@ impl FileRules for Run {
     ghost use Rattle.taps_app.specs.Run.{run_rules};
 
     ghost rules = { run_rules };
-
-    fn supports(pre: &Preconnection) -> bool {
-        has_one_member(pre)
-    }
 
     fn addresses(alloc: Global, pre: &Preconnection) -> Result<List<Address>, Unready> {
         match pre.exchange.role {
@@ -30,7 +24,7 @@ impl FileRules for Run {
 }
 
 impl<L: Layers> OneFile<L> for Run {
-    ghost use Rattle.taps_app.specs.Roles.{IsRunOn, LeavesRun};
+    ghost use Rattle.taps_session.specs.Roles.{IsRunOn, LeavesRun};
 
     ghost Prints = { IsRunOn L.layers };
 

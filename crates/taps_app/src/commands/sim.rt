@@ -3,16 +3,16 @@ ghost use Rattle.taps_command.specs.Checks.{second_value, HasFirst, HasSecond};
 ghost use Rattle.taps_command.specs.Meanings.{Returns};
 ghost use Rattle.taps_app.specs.Sim.{scripted, AreAtFirst};
 
-use crate::session_log::simulate;
 use std::alloc::Global;
 use taps_base::{List, NoMemory};
 use taps_command::{
     Command, FileRules, Layers, MOST_BYTES, Printed, Shelf, TwoFiles, Unready, check_first, derive,
-    has_one_member, vouch_untouched,
+    vouch_untouched,
 };
 use taps_endpoint::Address;
 use taps_preconnection::Preconnection;
 use taps_script::{ScriptError, ScriptSockets};
+use taps_session::simulate;
 use taps_socket::Sockets;
 use taps_text::Refusal;
 
@@ -23,10 +23,6 @@ impl FileRules for Sim {
     ghost use Rattle.taps_app.specs.Sim.{sim_rules};
 
     ghost rules = { sim_rules };
-
-    fn supports(pre: &Preconnection) -> bool {
-        has_one_member(pre)
-    }
 
     fn addresses(alloc: Global, pre: &Preconnection) -> Result<List<Address>, Unready> {
         derive(alloc, pre)

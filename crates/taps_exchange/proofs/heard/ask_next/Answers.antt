@@ -35,36 +35,36 @@ pub returns-then-has_ended-clause-sender : goal.returns-then-has_ended-clause-se
 returns-then-has_ended-clause-sender g c =
     refl
 
-pub drive_in-requires-clause-wanting : goal.drive_in-requires-clause-wanting
-drive_in-requires-clause-wanting g c =
+pub ask_once-requires-clause-wanting : goal.ask_once-requires-clause-wanting
+ask_once-requires-clause-wanting g c =
     c.requires.wanting
 
-pub drive_in-requires-clause-goes_on : goal.drive_in-requires-clause-goes_on
-drive_in-requires-clause-goes_on g c =
+pub ask_once-requires-clause-goes_on : goal.ask_once-requires-clause-goes_on
+ask_once-requires-clause-goes_on g c =
     let e : c.args.connection.now.receiver.ended ≡ false = sym c.has_ended.ensures ∙ c.if-has_ended.false in
     e
 
-pub drive_in-requires-clause-sound : goal.drive_in-requires-clause-sound
-drive_in-requires-clause-sound g c =
+pub ask_once-requires-clause-sound : goal.ask_once-requires-clause-sound
+ask_once-requires-clause-sound g c =
     c.requires.sound
 
-pub drive_in-requires-clause-held : goal.drive_in-requires-clause-held
-drive_in-requires-clause-held g c =
+pub ask_once-requires-clause-held : goal.ask_once-requires-clause-held
+ask_once-requires-clause-held g c =
     c.requires.held
 
-pub drive_in-requires-clause-until : goal.drive_in-requires-clause-until
-drive_in-requires-clause-until g c =
+pub ask_once-requires-clause-until : goal.ask_once-requires-clause-until
+ask_once-requires-clause-until g c =
     c.requires.until
 
-pub drive_in-requires-clause-spare : goal.drive_in-requires-clause-spare
-drive_in-requires-clause-spare g c =
+pub ask_once-requires-clause-spare : goal.ask_once-requires-clause-spare
+ask_once-requires-clause-spare g c =
     let e : c.args.connection.now.receiver.ended ≡ false = sym c.has_ended.ensures ∙ c.if-has_ended.false in
     let one : one_unless c.args.connection.now.receiver.ended ≡ 1 = ap one_unless e in let s = c.requires.spare in omega (arith, one, s)
 
 pub returns-in-Got-clause-stepped : goal.returns-in-Got-clause-stepped
 returns-in-Got-clause-stepped g c =
     let e : c.args.connection.now.receiver.ended ≡ false = sym c.has_ended.ensures ∙ c.if-has_ended.false in
-    λ d piece needs read heard l h. got_more g.N.Sockets.Becomes c.args.net.now c.drive_in.new.net d c.args.connection.now.socket piece c.args.until needs read c.args.connection.now.receiver.ended heard (layers_of (λ vtable. (g.dyn-1.0.entry vtable).1) c.args.connection.now.chain) (g.N.Sockets.net c.args.net.now) (g.N.Sockets.net c.drive_in.new.net) (inbox_of c.args.connection.now.receiver c.args.connection.now.sender.moment) (inbox_of c.drive_in.new.self.receiver c.drive_in.new.self.sender.moment) e refl c.requires.wanting l h c.in-Got.ensures.pulled
+    λ d piece needs read heard l h. got_more g.N.Sockets.Becomes c.args.net.now c.ask_once.new.net d c.args.connection.now.socket piece c.args.until needs read c.args.connection.now.receiver.ended heard (layers_of (λ vtable. (g.dyn-1.0.entry vtable).1) c.args.connection.now.chain) (g.N.Sockets.net c.args.net.now) (g.N.Sockets.net c.ask_once.new.net) (inbox_of c.args.connection.now.receiver c.args.connection.now.sender.moment) (inbox_of c.ask_once.new.connection.receiver c.ask_once.new.connection.sender.moment) e refl c.requires.wanting l h c.in-Got.ensures.pulled
 
 pub returns-in-Got-clause-fits : goal.returns-in-Got-clause-fits
 returns-in-Got-clause-fits g c =
@@ -74,7 +74,7 @@ pub returns-in-Got-clause-changes : goal.returns-in-Got-clause-changes
 returns-in-Got-clause-changes g c =
     let e : c.args.connection.now.receiver.ended ≡ false = sym c.has_ended.ensures ∙ c.if-has_ended.false in
     let one : one_unless c.args.connection.now.receiver.ended ≡ 1 = ap one_unless e in
-    changes_by c.args.connection.now.socket (one_unless c.args.connection.now.receiver.ended) (pulled_items c.args.connection.now.socket pulled.Got) _ (g.N.Sockets.net c.args.net.now) (g.N.Sockets.net c.drive_in.new.net) (omega (arith, one)) (pulled_own c.args.connection.now.socket pulled.Got) c.in-Got.ensures.adds
+    changes_by c.args.connection.now.socket (one_unless c.args.connection.now.receiver.ended) (pulled_items c.args.connection.now.socket pulled.Got) _ (g.N.Sockets.net c.args.net.now) (g.N.Sockets.net c.ask_once.new.net) (omega (arith, one)) (pulled_own c.args.connection.now.socket pulled.Got) c.in-Got.ensures.adds
 
 pub returns-in-Got-clause-sound : goal.returns-in-Got-clause-sound
 returns-in-Got-clause-sound g c =
@@ -94,16 +94,16 @@ returns-in-Got-clause-held g c =
 
 pub returns-in-Got-clause-closer : goal.returns-in-Got-clause-closer
 returns-in-Got-clause-closer g c =
-    got_closer g.N.Sockets.Becomes c.args.net.now c.drive_in.new.net (g.N.Sockets.net c.args.net.now) (g.N.Sockets.net c.drive_in.new.net) c.args.connection.now.socket c.args.until (inbox_of c.args.connection.now.receiver c.args.connection.now.sender.moment) (inbox_of c.drive_in.new.self.receiver c.drive_in.new.self.sender.moment) c.requires.wanting c.in-Got.ensures.pulled
+    got_closer g.N.Sockets.Becomes c.args.net.now c.ask_once.new.net (g.N.Sockets.net c.args.net.now) (g.N.Sockets.net c.ask_once.new.net) c.args.connection.now.socket c.args.until (inbox_of c.args.connection.now.receiver c.args.connection.now.sender.moment) (inbox_of c.ask_once.new.connection.receiver c.ask_once.new.connection.sender.moment) c.requires.wanting c.in-Got.ensures.pulled
 
 pub returns-in-Got-clause-spare : goal.returns-in-Got-clause-spare
 returns-in-Got-clause-spare g c =
-    let same : one_unless c.drive_in.new.self.receiver.ended ≡ one_unless c.args.connection.now.receiver.ended = ap (λ v. one_unless v.ended) c.in-Got.ensures.pulled.pulled.2.1 in let s = c.in-Got.ensures.adds.spare in omega (arith, same, s)
+    let same : one_unless c.ask_once.new.connection.receiver.ended ≡ one_unless c.args.connection.now.receiver.ended = ap (λ v. one_unless v.ended) c.in-Got.ensures.pulled.pulled.2.1 in let s = c.in-Got.ensures.adds.spare in omega (arith, same, s)
 
 pub returns-in-Ended-clause-stepped : goal.returns-in-Ended-clause-stepped
 returns-in-Ended-clause-stepped g c =
     let e : c.args.connection.now.receiver.ended ≡ false = sym c.has_ended.ensures ∙ c.if-has_ended.false in
-    λ d piece needs read heard l h. end_more g.N.Sockets.Becomes c.args.net.now c.drive_in.new.net d c.args.connection.now.socket piece c.args.until needs read c.args.connection.now.receiver.ended heard (layers_of (λ vtable. (g.dyn-1.0.entry vtable).1) c.args.connection.now.chain) (g.N.Sockets.net c.args.net.now) (g.N.Sockets.net c.drive_in.new.net) (inbox_of c.args.connection.now.receiver c.args.connection.now.sender.moment) (inbox_of c.drive_in.new.self.receiver c.drive_in.new.self.sender.moment) e l h c.in-Ended.ensures.pulled
+    λ d piece needs read heard l h. end_more g.N.Sockets.Becomes c.args.net.now c.ask_once.new.net d c.args.connection.now.socket piece c.args.until needs read c.args.connection.now.receiver.ended heard (layers_of (λ vtable. (g.dyn-1.0.entry vtable).1) c.args.connection.now.chain) (g.N.Sockets.net c.args.net.now) (g.N.Sockets.net c.ask_once.new.net) (inbox_of c.args.connection.now.receiver c.args.connection.now.sender.moment) (inbox_of c.ask_once.new.connection.receiver c.ask_once.new.connection.sender.moment) e l h c.in-Ended.ensures.pulled
 
 pub returns-in-Ended-clause-fits : goal.returns-in-Ended-clause-fits
 returns-in-Ended-clause-fits g c =
@@ -113,7 +113,7 @@ pub returns-in-Ended-clause-changes : goal.returns-in-Ended-clause-changes
 returns-in-Ended-clause-changes g c =
     let e : c.args.connection.now.receiver.ended ≡ false = sym c.has_ended.ensures ∙ c.if-has_ended.false in
     let one : one_unless c.args.connection.now.receiver.ended ≡ 1 = ap one_unless e in
-    changes_by c.args.connection.now.socket (one_unless c.args.connection.now.receiver.ended) (pulled_items c.args.connection.now.socket pulled.Ended) _ (g.N.Sockets.net c.args.net.now) (g.N.Sockets.net c.drive_in.new.net) (omega (arith, one)) (pulled_own c.args.connection.now.socket pulled.Ended) c.in-Ended.ensures.adds
+    changes_by c.args.connection.now.socket (one_unless c.args.connection.now.receiver.ended) (pulled_items c.args.connection.now.socket pulled.Ended) _ (g.N.Sockets.net c.args.net.now) (g.N.Sockets.net c.ask_once.new.net) (omega (arith, one)) (pulled_own c.args.connection.now.socket pulled.Ended) c.in-Ended.ensures.adds
 
 pub returns-in-Ended-clause-sound : goal.returns-in-Ended-clause-sound
 returns-in-Ended-clause-sound g c =
@@ -134,17 +134,17 @@ returns-in-Ended-clause-held g c =
 pub returns-in-Ended-clause-closer : goal.returns-in-Ended-clause-closer
 returns-in-Ended-clause-closer g c =
     let e : c.args.connection.now.receiver.ended ≡ false = sym c.has_ended.ensures ∙ c.if-has_ended.false in
-    end_closer g.N.Sockets.Becomes c.args.net.now c.drive_in.new.net (g.N.Sockets.net c.args.net.now) (g.N.Sockets.net c.drive_in.new.net) c.args.connection.now.socket c.args.until (inbox_of c.args.connection.now.receiver c.args.connection.now.sender.moment) (inbox_of c.drive_in.new.self.receiver c.drive_in.new.self.sender.moment) e c.in-Ended.ensures.pulled
+    end_closer g.N.Sockets.Becomes c.args.net.now c.ask_once.new.net (g.N.Sockets.net c.args.net.now) (g.N.Sockets.net c.ask_once.new.net) c.args.connection.now.socket c.args.until (inbox_of c.args.connection.now.receiver c.args.connection.now.sender.moment) (inbox_of c.ask_once.new.connection.receiver c.ask_once.new.connection.sender.moment) e c.in-Ended.ensures.pulled
 
 pub returns-in-Ended-clause-spare : goal.returns-in-Ended-clause-spare
 returns-in-Ended-clause-spare g c =
     let e : c.args.connection.now.receiver.ended ≡ false = sym c.has_ended.ensures ∙ c.if-has_ended.false in
-    let one : one_unless c.args.connection.now.receiver.ended ≡ 1 = ap one_unless e in let none : one_unless c.drive_in.new.self.receiver.ended ≡ 0 = ap (λ v. one_unless v.ended) c.in-Ended.ensures.pulled.pulled.1 in let s = c.in-Ended.ensures.adds.spare in omega (arith, one, none, s)
+    let one : one_unless c.args.connection.now.receiver.ended ≡ 1 = ap one_unless e in let none : one_unless c.ask_once.new.connection.receiver.ended ≡ 0 = ap (λ v. one_unless v.ended) c.in-Ended.ensures.pulled.pulled.1 in let s = c.in-Ended.ensures.adds.spare in omega (arith, one, none, s)
 
 pub returns-in-Timed-clause-stepped : goal.returns-in-Timed-clause-stepped
 returns-in-Timed-clause-stepped g c =
     let e : c.args.connection.now.receiver.ended ≡ false = sym c.has_ended.ensures ∙ c.if-has_ended.false in
-    λ d piece needs read heard l h. timed_ends g.N.Sockets.Becomes c.args.net.now c.drive_in.new.net d c.args.connection.now.socket piece c.args.until needs read c.args.connection.now.receiver.ended heard (g.N.Sockets.net c.args.net.now) (g.N.Sockets.net c.drive_in.new.net) (inbox_of c.args.connection.now.receiver c.args.connection.now.sender.moment) (inbox_of c.drive_in.new.self.receiver c.drive_in.new.self.sender.moment) c.in-Timed.field-0 e l c.in-Timed.ensures.pulled
+    λ d piece needs read heard l h. timed_ends g.N.Sockets.Becomes c.args.net.now c.ask_once.new.net d c.args.connection.now.socket piece c.args.until needs read c.args.connection.now.receiver.ended heard (g.N.Sockets.net c.args.net.now) (g.N.Sockets.net c.ask_once.new.net) (inbox_of c.args.connection.now.receiver c.args.connection.now.sender.moment) (inbox_of c.ask_once.new.connection.receiver c.ask_once.new.connection.sender.moment) c.in-Timed.field-0 e l c.in-Timed.ensures.pulled
 
 pub returns-in-Timed-clause-fits : goal.returns-in-Timed-clause-fits
 returns-in-Timed-clause-fits g c =
@@ -154,7 +154,7 @@ pub returns-in-Timed-clause-changes : goal.returns-in-Timed-clause-changes
 returns-in-Timed-clause-changes g c =
     let e : c.args.connection.now.receiver.ended ≡ false = sym c.has_ended.ensures ∙ c.if-has_ended.false in
     let one : one_unless c.args.connection.now.receiver.ended ≡ 1 = ap one_unless e in
-    changes_by c.args.connection.now.socket (one_unless c.args.connection.now.receiver.ended) (pulled_items c.args.connection.now.socket (pulled.Timed c.in-Timed.field-0)) _ (g.N.Sockets.net c.args.net.now) (g.N.Sockets.net c.drive_in.new.net) (omega (arith, one)) (pulled_own c.args.connection.now.socket (pulled.Timed c.in-Timed.field-0)) c.in-Timed.ensures.adds
+    changes_by c.args.connection.now.socket (one_unless c.args.connection.now.receiver.ended) (pulled_items c.args.connection.now.socket (pulled.Timed c.in-Timed.field-0)) _ (g.N.Sockets.net c.args.net.now) (g.N.Sockets.net c.ask_once.new.net) (omega (arith, one)) (pulled_own c.args.connection.now.socket (pulled.Timed c.in-Timed.field-0)) c.in-Timed.ensures.adds
 
 pub returns-in-Timed-clause-sound : goal.returns-in-Timed-clause-sound
 returns-in-Timed-clause-sound g c =
@@ -171,7 +171,7 @@ returns-in-Timed-clause-sender g c =
 pub returns-in-Failed-clause-stepped : goal.returns-in-Failed-clause-stepped
 returns-in-Failed-clause-stepped g c =
     let e : c.args.connection.now.receiver.ended ≡ false = sym c.has_ended.ensures ∙ c.if-has_ended.false in
-    λ d piece needs read heard l h. failed_ends g.N.Sockets.Becomes c.args.net.now c.drive_in.new.net d c.args.connection.now.socket piece c.args.until needs read c.args.connection.now.receiver.ended heard (g.N.Sockets.net c.args.net.now) (g.N.Sockets.net c.drive_in.new.net) (inbox_of c.args.connection.now.receiver c.args.connection.now.sender.moment) (inbox_of c.drive_in.new.self.receiver c.drive_in.new.self.sender.moment) c.in-Failed.cause e l c.in-Failed.ensures.pulled
+    λ d piece needs read heard l h. failed_ends g.N.Sockets.Becomes c.args.net.now c.ask_once.new.net d c.args.connection.now.socket piece c.args.until needs read c.args.connection.now.receiver.ended heard (g.N.Sockets.net c.args.net.now) (g.N.Sockets.net c.ask_once.new.net) (inbox_of c.args.connection.now.receiver c.args.connection.now.sender.moment) (inbox_of c.ask_once.new.connection.receiver c.ask_once.new.connection.sender.moment) c.in-Failed.cause e l c.in-Failed.ensures.pulled
 
 pub returns-in-Failed-clause-fits : goal.returns-in-Failed-clause-fits
 returns-in-Failed-clause-fits g c =
@@ -181,7 +181,7 @@ pub returns-in-Failed-clause-changes : goal.returns-in-Failed-clause-changes
 returns-in-Failed-clause-changes g c =
     let e : c.args.connection.now.receiver.ended ≡ false = sym c.has_ended.ensures ∙ c.if-has_ended.false in
     let one : one_unless c.args.connection.now.receiver.ended ≡ 1 = ap one_unless e in
-    changes_by c.args.connection.now.socket (one_unless c.args.connection.now.receiver.ended) (pulled_items c.args.connection.now.socket (pulled.Failed c.in-Failed.cause)) _ (g.N.Sockets.net c.args.net.now) (g.N.Sockets.net c.drive_in.new.net) (omega (arith, one)) (pulled_own c.args.connection.now.socket (pulled.Failed c.in-Failed.cause)) c.in-Failed.ensures.adds
+    changes_by c.args.connection.now.socket (one_unless c.args.connection.now.receiver.ended) (pulled_items c.args.connection.now.socket (pulled.Failed c.in-Failed.cause)) _ (g.N.Sockets.net c.args.net.now) (g.N.Sockets.net c.ask_once.new.net) (omega (arith, one)) (pulled_own c.args.connection.now.socket (pulled.Failed c.in-Failed.cause)) c.in-Failed.ensures.adds
 
 pub returns-in-Failed-clause-sound : goal.returns-in-Failed-clause-sound
 returns-in-Failed-clause-sound g c =
@@ -198,7 +198,7 @@ returns-in-Failed-clause-sender g c =
 pub returns-in-NoMemory-clause-stepped : goal.returns-in-NoMemory-clause-stepped
 returns-in-NoMemory-clause-stepped g c =
     let e : c.args.connection.now.receiver.ended ≡ false = sym c.has_ended.ensures ∙ c.if-has_ended.false in
-    λ d piece needs read heard l h. none_asked g.N.Sockets.Becomes c.args.net.now c.drive_in.new.net d c.args.connection.now.socket piece c.args.until needs read c.args.connection.now.receiver.ended heard (g.N.Sockets.net c.args.net.now) (g.N.Sockets.net c.drive_in.new.net) (inbox_of c.args.connection.now.receiver c.args.connection.now.sender.moment) (inbox_of c.drive_in.new.self.receiver c.drive_in.new.self.sender.moment) _ c.in-NoMemory.ensures.pulled
+    λ d piece needs read heard l h. none_asked g.N.Sockets.Becomes c.args.net.now c.ask_once.new.net d c.args.connection.now.socket piece c.args.until needs read c.args.connection.now.receiver.ended heard (g.N.Sockets.net c.args.net.now) (g.N.Sockets.net c.ask_once.new.net) (inbox_of c.args.connection.now.receiver c.args.connection.now.sender.moment) (inbox_of c.ask_once.new.connection.receiver c.ask_once.new.connection.sender.moment) _ c.in-NoMemory.ensures.pulled
 
 pub returns-in-NoMemory-clause-fits : goal.returns-in-NoMemory-clause-fits
 returns-in-NoMemory-clause-fits g c =
@@ -208,7 +208,7 @@ pub returns-in-NoMemory-clause-changes : goal.returns-in-NoMemory-clause-changes
 returns-in-NoMemory-clause-changes g c =
     let e : c.args.connection.now.receiver.ended ≡ false = sym c.has_ended.ensures ∙ c.if-has_ended.false in
     let one : one_unless c.args.connection.now.receiver.ended ≡ 1 = ap one_unless e in
-    changes_by c.args.connection.now.socket (one_unless c.args.connection.now.receiver.ended) (pulled_items c.args.connection.now.socket pulled.NoMemory) _ (g.N.Sockets.net c.args.net.now) (g.N.Sockets.net c.drive_in.new.net) (omega (arith, one)) (pulled_own c.args.connection.now.socket pulled.NoMemory) c.in-NoMemory.ensures.adds
+    changes_by c.args.connection.now.socket (one_unless c.args.connection.now.receiver.ended) (pulled_items c.args.connection.now.socket pulled.NoMemory) _ (g.N.Sockets.net c.args.net.now) (g.N.Sockets.net c.ask_once.new.net) (omega (arith, one)) (pulled_own c.args.connection.now.socket pulled.NoMemory) c.in-NoMemory.ensures.adds
 
 pub returns-in-NoMemory-clause-sound : goal.returns-in-NoMemory-clause-sound
 returns-in-NoMemory-clause-sound g c =
@@ -228,20 +228,20 @@ returns-then-has_ended-clause-moment g c =
 
 pub returns-in-Got-clause-moment : goal.returns-in-Got-clause-moment
 returns-in-Got-clause-moment g c =
-    moment_pulled g.N.Sockets.Becomes c.args.net.now c.drive_in.new.net (g.N.Sockets.net c.args.net.now) (g.N.Sockets.net c.drive_in.new.net) c.args.connection.now.socket c.args.until (inbox_of c.args.connection.now.receiver c.args.connection.now.sender.moment) (inbox_of c.drive_in.new.self.receiver c.drive_in.new.self.sender.moment) pulled.Got c.in-Got.ensures.pulled
+    moment_pulled g.N.Sockets.Becomes c.args.net.now c.ask_once.new.net (g.N.Sockets.net c.args.net.now) (g.N.Sockets.net c.ask_once.new.net) c.args.connection.now.socket c.args.until (inbox_of c.args.connection.now.receiver c.args.connection.now.sender.moment) (inbox_of c.ask_once.new.connection.receiver c.ask_once.new.connection.sender.moment) pulled.Got c.in-Got.ensures.pulled
 
 pub returns-in-Ended-clause-moment : goal.returns-in-Ended-clause-moment
 returns-in-Ended-clause-moment g c =
-    moment_pulled g.N.Sockets.Becomes c.args.net.now c.drive_in.new.net (g.N.Sockets.net c.args.net.now) (g.N.Sockets.net c.drive_in.new.net) c.args.connection.now.socket c.args.until (inbox_of c.args.connection.now.receiver c.args.connection.now.sender.moment) (inbox_of c.drive_in.new.self.receiver c.drive_in.new.self.sender.moment) pulled.Ended c.in-Ended.ensures.pulled
+    moment_pulled g.N.Sockets.Becomes c.args.net.now c.ask_once.new.net (g.N.Sockets.net c.args.net.now) (g.N.Sockets.net c.ask_once.new.net) c.args.connection.now.socket c.args.until (inbox_of c.args.connection.now.receiver c.args.connection.now.sender.moment) (inbox_of c.ask_once.new.connection.receiver c.ask_once.new.connection.sender.moment) pulled.Ended c.in-Ended.ensures.pulled
 
 pub returns-in-Timed-clause-moment : goal.returns-in-Timed-clause-moment
 returns-in-Timed-clause-moment g c =
-    moment_pulled g.N.Sockets.Becomes c.args.net.now c.drive_in.new.net (g.N.Sockets.net c.args.net.now) (g.N.Sockets.net c.drive_in.new.net) c.args.connection.now.socket c.args.until (inbox_of c.args.connection.now.receiver c.args.connection.now.sender.moment) (inbox_of c.drive_in.new.self.receiver c.drive_in.new.self.sender.moment) (pulled.Timed c.in-Timed.field-0) c.in-Timed.ensures.pulled
+    moment_pulled g.N.Sockets.Becomes c.args.net.now c.ask_once.new.net (g.N.Sockets.net c.args.net.now) (g.N.Sockets.net c.ask_once.new.net) c.args.connection.now.socket c.args.until (inbox_of c.args.connection.now.receiver c.args.connection.now.sender.moment) (inbox_of c.ask_once.new.connection.receiver c.ask_once.new.connection.sender.moment) (pulled.Timed c.in-Timed.field-0) c.in-Timed.ensures.pulled
 
 pub returns-in-Failed-clause-moment : goal.returns-in-Failed-clause-moment
 returns-in-Failed-clause-moment g c =
-    moment_pulled g.N.Sockets.Becomes c.args.net.now c.drive_in.new.net (g.N.Sockets.net c.args.net.now) (g.N.Sockets.net c.drive_in.new.net) c.args.connection.now.socket c.args.until (inbox_of c.args.connection.now.receiver c.args.connection.now.sender.moment) (inbox_of c.drive_in.new.self.receiver c.drive_in.new.self.sender.moment) (pulled.Failed c.in-Failed.cause) c.in-Failed.ensures.pulled
+    moment_pulled g.N.Sockets.Becomes c.args.net.now c.ask_once.new.net (g.N.Sockets.net c.args.net.now) (g.N.Sockets.net c.ask_once.new.net) c.args.connection.now.socket c.args.until (inbox_of c.args.connection.now.receiver c.args.connection.now.sender.moment) (inbox_of c.ask_once.new.connection.receiver c.ask_once.new.connection.sender.moment) (pulled.Failed c.in-Failed.cause) c.in-Failed.ensures.pulled
 
 pub returns-in-NoMemory-clause-moment : goal.returns-in-NoMemory-clause-moment
 returns-in-NoMemory-clause-moment g c =
-    moment_pulled g.N.Sockets.Becomes c.args.net.now c.drive_in.new.net (g.N.Sockets.net c.args.net.now) (g.N.Sockets.net c.drive_in.new.net) c.args.connection.now.socket c.args.until (inbox_of c.args.connection.now.receiver c.args.connection.now.sender.moment) (inbox_of c.drive_in.new.self.receiver c.drive_in.new.self.sender.moment) pulled.NoMemory c.in-NoMemory.ensures.pulled
+    moment_pulled g.N.Sockets.Becomes c.args.net.now c.ask_once.new.net (g.N.Sockets.net c.args.net.now) (g.N.Sockets.net c.ask_once.new.net) c.args.connection.now.socket c.args.until (inbox_of c.args.connection.now.receiver c.args.connection.now.sender.moment) (inbox_of c.ask_once.new.connection.receiver c.ask_once.new.connection.sender.moment) pulled.NoMemory c.in-NoMemory.ensures.pulled

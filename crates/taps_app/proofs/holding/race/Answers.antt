@@ -1,5 +1,0 @@
-use Rattle.taps_app.proofs.Racing.{raced}
-use Rattle.taps_app.proofs.holding.race.Goals as goal
-
-pub returns-in-Ok-clause-raced : goal.returns-in-Ok-clause-raced
-returns-in-Ok-clause-raced g c = raced _ _ _ _ c.in-Ok.ended _ c.requires.fresh c.requires.room c.in-Ok.ensures.race c.answer.ensures.answer

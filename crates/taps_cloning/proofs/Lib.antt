@@ -1,0 +1,12 @@
+pub mod Races
+pub mod Added
+pub mod Keeping
+pub mod Growing
+pub mod Opened
+pub mod Founded
+pub mod Ends
+pub mod Sessions
+pub mod Places
+pub mod Recorders
+pub mod Holds
+pub mod Apart

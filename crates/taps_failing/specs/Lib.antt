@@ -1,0 +1,4 @@
+pub mod FailingCalls
+pub mod SameSockets
+pub mod FailingNet
+pub mod Goings

@@ -1,0 +1,5 @@
+mod Few
+mod Shelved
+mod Moving
+mod Honest
+pub mod Told

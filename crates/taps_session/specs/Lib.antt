@@ -1,0 +1,17 @@
+pub mod FileSessions
+pub mod FileMessages
+pub mod Sessions
+pub mod Observed
+pub mod SessionLogs
+pub mod Services
+pub mod FileGroups
+pub mod Groups
+pub mod GroupLogs
+pub mod GroupParts
+pub mod Roles
+pub mod ScriptedSessions
+pub mod Session
+pub mod Raced
+pub mod RacedBehind
+pub mod Loops
+pub mod LoopParts
