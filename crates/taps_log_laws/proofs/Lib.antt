@@ -1,0 +1,4 @@
+pub mod LineTexts
+pub mod Texts
+pub mod OneLine
+pub mod Whole

@@ -1,0 +1,3 @@
+pub mod EntriesOf
+pub mod Laws
+pub mod WholeTexts
