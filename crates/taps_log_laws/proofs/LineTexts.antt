@@ -125,7 +125,8 @@ counts_say member count = says (sent_line member count) (say_sent member count) 
 
 pub messages_say : MessagesSay
 messages_say member number body =
-    says (received_line member number body) (say_received member number (hex_text body)) (received_is member number body)
+    says (received_line member number body) (say_received member number (hex_text body))
+    (received_is member number body)
 
 pub parts_say : PartsSay
 parts_say member number body =
@@ -136,4 +137,5 @@ leaf_counts_say count = says (codes "leaves " ++ (decimal count ++ codes "\n")) 
 
 pub leaves_say : LeavesSay
 leaves_say interface number leaf gap =
-    says (leaf_line interface number leaf gap) (entry_of_leaf interface number leaf gap) (leaf_is interface number leaf gap)
+    says (leaf_line interface number leaf gap) (entry_of_leaf interface number leaf gap)
+    (leaf_is interface number leaf gap)

@@ -71,7 +71,8 @@ word causes.Reset = refl
 word causes.Memory = refl
 word causes.Other = refl
 
-start_in_line : (start : Start) (at : ℕ) → IsStart start → IsWord at → is_one_line (start_text start (moment_text at)) ≡ true
+start_in_line : (start : Start) (at : ℕ) → IsStart start → IsWord at
+    → is_one_line (start_text start (moment_text at)) ≡ true
 start_in_line (starts.Socket socket) at h f =
     joined (decimal socket) (moment_text at) (number socket h) (number at f)
 start_in_line (starts.Refused cause) at h f = joined (cause_word cause) (moment_text at) (word cause) (number at f)

@@ -68,7 +68,8 @@ part_line_is member number true bytes = received_is member number bytes
 part_line_is member number false bytes = part_is member number bytes
 
 parts_are : (member number : ℕ) (parts : List PartState)
-    → part_lines member number parts ≡ entry_lines (map (λ part. entry_of_part member number part.last part.bytes) parts)
+    → part_lines member number parts
+    ≡ entry_lines (map (λ part. entry_of_part member number part.last part.bytes) parts)
 parts_are member number [] = refl
 parts_are member number (part ∷ parts) =
     line_before _ _ _ _ (part_line_is member number part.last part.bytes) (parts_are member number parts)
@@ -119,7 +120,8 @@ afters_are : (after : List Item) (part : Option ℕ) (members : List MemberLog) 
 afters_are after part members outcome =
     lines_before _ _ _ _ (items_are after)
     (lines_before (members_lines part 0 members) (outcome_line outcome) (entries_of_members part 0 members)
-    (entry_of_outcome outcome ∷ []) (members_are part 0 members) (one_line (outcome_line outcome) (entry_of_outcome outcome) (outcome_is outcome)))
+    (entry_of_outcome outcome ∷ []) (members_are part 0 members)
+    (one_line (outcome_line outcome) (entry_of_outcome outcome) (outcome_is outcome)))
 
 pub logs_say : LogsSay
 unfolding log_lines

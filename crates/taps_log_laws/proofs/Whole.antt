@@ -38,7 +38,8 @@ line_taken (b ∷ line) front text h =
     ∙ ap (λ (l : List ℕ). entry_before l (entries_behind [] text)) (append_assoc front (b ∷ []) line))
 
 entry_read : (entry : Entry) (text : List ℕ) (entries : List Entry) → IsWritten entry
-    → entries_behind [] text ≡ Some entries → entry_before (entry_text entry) (entries_behind [] text) ≡ Some (entry ∷ entries)
+    → entries_behind [] text ≡ Some entries
+    → entry_before (entry_text entry) (entries_behind [] text) ≡ Some (entry ∷ entries)
 entry_read entry text entries h e = rw (back entry h, e) refl
 
 -- all lines
@@ -48,7 +49,8 @@ unfolding entries_behind
 entries_read [] w o = refl
 entries_read (entry ∷ entries) w o =
     let written : IsWritten entry = All-head IsWritten entry entries w in
-    let within : is_one_line (entry_text entry) ≡ true = entry_in_line entry written (All-head IsOneLine entry entries o) in
+    let within : is_one_line (entry_text entry) ≡ true =
+    entry_in_line entry written (All-head IsOneLine entry entries o) in
     ap (entries_behind []) (append_assoc (entry_text entry) (codes "\n") (entry_lines entries))
     ∙ line_taken (entry_text entry) [] (entry_lines entries) within
     ∙ entry_read entry (entry_lines entries) entries written
@@ -58,7 +60,8 @@ entries_read (entry ∷ entries) w o =
 all_none : All IsOneLine []
 all_none k d lt = absurd (omega arith)
 
-items_in_line : (items : List Item) → All (λ item. IsOneLine (entry_of_item item)) items → All IsOneLine (map entry_of_item items)
+items_in_line : (items : List Item) → All (λ item. IsOneLine (entry_of_item item)) items
+    → All IsOneLine (map entry_of_item items)
 items_in_line [] h = all_none
 items_in_line (item ∷ items) h = All-cons IsOneLine (entry_of_item item) (map entry_of_item items)
     (All-head (λ i. IsOneLine (entry_of_item i)) item items h)
@@ -85,7 +88,8 @@ messages_in_line part member number [] = all_none
 messages_in_line part member number (body ∷ bodies) = All-append IsOneLine _ _
     (message_in_line part member number body) (messages_in_line part member (number + 1) bodies)
 
-member_in_line : (part : Option ℕ) (place : ℕ) (member : MemberLog) → All IsOneLine (entries_of_member part place member)
+member_in_line : (part : Option ℕ) (place : ℕ) (member : MemberLog)
+    → All IsOneLine (entries_of_member part place member)
 member_in_line part place member = All-cons IsOneLine _ _ tt (messages_in_line part place 0 member.heard)
 
 members_in_line : (part : Option ℕ) (place : ℕ) (members : List MemberLog)
@@ -130,7 +134,8 @@ ends_in_line (Some answers.Timeout) entries o = all_none
 ends_in_line (Some answers.Closed) entries o = all_none
 ends_in_line (Some answers.SocketFault) entries o = all_none
 
-log_in_line : (before : List Item) (answer : Option RaceAnswer) (after : List Item) (part : Option ℕ) (members : List MemberLog) (outcome : Outcome)
+log_in_line : (before : List Item) (answer : Option RaceAnswer) (after : List Item)
+    → (part : Option ℕ) (members : List MemberLog) (outcome : Outcome)
     → All (λ item. IsOneLine (entry_of_item item)) before → All (λ item. IsOneLine (entry_of_item item)) after
     → All IsOneLine (entries_of_log before answer after part members outcome)
 log_in_line before answer after part members outcome first second =
@@ -144,7 +149,8 @@ pub sessions_are_read : SessionsAreRead
 sessions_are_read interface leaves gaps before answer after part members outcome planned first second written =
     let plan : List Entry = entries_of_plan interface leaves gaps in
     let log : List Entry = entries_of_log before answer after part members outcome in
-    let text : plan_text interface leaves gaps ++ log_lines before answer after part members outcome ≡ entry_lines (plan ++ log) =
+    let text : plan_text interface leaves gaps ++ log_lines before answer after part members outcome
+    ≡ entry_lines (plan ++ log) =
     (let one = plans_say interface leaves gaps in
     let two = logs_say before answer after part members outcome in
     let three = lines_of_both plan log in cc) in

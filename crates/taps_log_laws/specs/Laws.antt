@@ -68,5 +68,7 @@ PlansSay = (interface : ℕ → List ℕ) (leaves : List Leaf) (gaps : List Gap)
     → plan_text interface leaves gaps ≡ entry_lines (entries_of_plan interface leaves gaps)
 
 abbrev pub LogsSay : Type 0
-LogsSay = (before : List Item) (answer : Option RaceAnswer) (after : List Item) (part : Option ℕ) (members : List MemberLog) (outcome : Outcome)
-    → log_lines before answer after part members outcome ≡ entry_lines (entries_of_log before answer after part members outcome)
+LogsSay = (before : List Item) (answer : Option RaceAnswer) (after : List Item)
+    → (part : Option ℕ) (members : List MemberLog) (outcome : Outcome)
+    → log_lines before answer after part members outcome
+    ≡ entry_lines (entries_of_log before answer after part members outcome)

@@ -47,7 +47,9 @@ IsOneLine _ = Unit {0}
 
 -- A plan and the log behind it, with numbers of 64 bits and addresses within one line, are read as their entries.
 abbrev pub SessionsAreRead : Type 0
-SessionsAreRead = (interface : ℕ → List ℕ) (leaves : List Leaf) (gaps : List Gap) (before : List Item) (answer : Option RaceAnswer) (after : List Item) (part : Option ℕ) (members : List MemberLog) (outcome : Outcome)
+SessionsAreRead = (interface : ℕ → List ℕ) (leaves : List Leaf) (gaps : List Gap)
+    → (before : List Item) (answer : Option RaceAnswer) (after : List Item)
+    → (part : Option ℕ) (members : List MemberLog) (outcome : Outcome)
     → All IsOneLine (entries_of_plan interface leaves gaps) → All (λ item. IsOneLine (entry_of_item item)) before
     → All (λ item. IsOneLine (entry_of_item item)) after
     → All IsWritten (entries_of_plan interface leaves gaps ++ entries_of_log before answer after part members outcome)

@@ -9,9 +9,7 @@ use crate::bounds::{bound_answer, bound_item, bound_outcome};
 use taps_base::NoMemory;
 use taps_log::{Line, read_line};
 use taps_socket::{Item, RaceAnswer};
-use taps_text::{
-    Outcome, put_answer, put_item, put_outcome, put_part, put_received, put_sent,
-};
+use taps_text::{Outcome, put_answer, put_item, put_outcome, put_part, put_received, put_sent};
 
 /// Writes the line of an item into the text, in the place of what it held, and reads it: it says the item's entry.
 pub fn read_item<'a>(text: &'a mut Vec<u8>, item: &Item) -> Result<Option<Line<'a>>, NoMemory>

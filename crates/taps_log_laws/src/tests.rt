@@ -1,7 +1,4 @@
 use crate::{read_answer, read_item, read_outcome, read_part, read_received, read_sent};
-use std::alloc::Global;
-use std::process::Abort;
-use std::test::Fail;
 use taps_endpoint::Address;
 use taps_log::Line;
 use taps_socket::{Cause, How, Item, RaceAnswer, Target};
@@ -17,7 +14,7 @@ const HERE: Target = Target {
 };
 
 // Items, and the line of each.
-static ITEMS: [(Item, &[u8]); 4] = [
+const ITEMS: [(Item, &[u8]); 4] = [
     (
         Item::Started {
             leaf: 1,
@@ -63,7 +60,8 @@ fn is_read(text: &mut Vec<u8>, item: &Item, wanted: &[u8]) -> bool {
 #[test]
 fn reads_items(rt: HostRuntime) {
     let mut text = Vec::new(rt.alloc());
-    for (item, wanted) in &ITEMS {
+    let items = ITEMS;
+    for (item, wanted) in &items {
         assert!(rt; is_read(&mut text, item, wanted));
     }
 }
@@ -75,10 +73,25 @@ fn says_the_rest(text: &mut Vec<u8>) -> bool {
         at: 5,
     };
     matches!(read_answer(text, ready), Ok(Some(Line::Ready(2))))
-        && matches!(read_outcome(text, Outcome::CloneLimit(4)), Ok(Some(Line::CloneLimit(4))))
-        && matches!(read_sent(text, 0, 3), Ok(Some(Line::Sent { member: 0, count: 3 })))
-        && matches!(read_received(text, 0, 1, b""), Ok(Some(Line::Received { hex: b"-", .. })))
-        && matches!(read_part(text, 0, 1, b"ab"), Ok(Some(Line::Part { hex: b"6162", .. })))
+        && matches!(
+            read_outcome(text, Outcome::CloneLimit(4)),
+            Ok(Some(Line::CloneLimit(4)))
+        )
+        && matches!(
+            read_sent(text, 0, 3),
+            Ok(Some(Line::Sent {
+                member: 0,
+                count: 3
+            }))
+        )
+        && matches!(
+            read_received(text, 0, 1, b""),
+            Ok(Some(Line::Received { hex: b"-", .. }))
+        )
+        && matches!(
+            read_part(text, 0, 1, b"ab"),
+            Ok(Some(Line::Part { hex: b"6162", .. }))
+        )
 }
 
 #[test]
