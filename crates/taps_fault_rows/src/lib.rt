@@ -1,5 +1,5 @@
-//! Tests in which each call of the outside fails in turn: sessions over scripted sockets and over sockets in memory, reads of
-//! files, and the write of the text.
+//! Tests in which each call of the outside fails in turn: calls of scripted sockets and of sockets in memory, reads of
+//! files, and the write of a text.
 #![tactic(auto)]
 
 #[cfg(test)]

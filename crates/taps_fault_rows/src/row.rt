@@ -53,62 +53,95 @@ pub fn framers(alloc: Global) -> Result<Vec<Box<dyn Framer>>, AllocError>
 
 /// Runs a row as often as it has endings.
 pub fn fails_in_turn<R: Abort>(rt: &R, alloc: Global, row: &Row<'_>) -> Result<(), Fail> {
+    let shelf = framers(alloc)?;
     for place in 0..row.endings.len() {
-        match row.net {
-            Net::Script(script) => {
-                let net = ScriptSockets::read(alloc, script)?;
-                ends_so(rt, alloc, row, place, net)?;
-            }
-            Net::Memory { pairs, ring } => {
-                assert!(rt; pairs <= 64 && ring >= 1 && ring <= 65536);
-                let net = MemoryNet::new(alloc, pairs, ring, &[])?;
-                ends_so(rt, alloc, row, place, net)?;
-            }
-        }
+        fails_at(rt, alloc, row, place, &shelf)?;
     }
     Ok(())
 }
 
-// Runs a row over these sockets, of which the call of a place fails, and looks at what is printed, at the status, that every
-// socket is closed, and that one failure was told, or none at the last place.
+// Runs a row over new sockets of which the call of a place fails.
+fn fails_at<R: Abort>(
+    rt: &R,
+    alloc: Global,
+    row: &Row<'_>,
+    place: usize,
+    shelf: &Vec<Box<dyn Framer>>,
+) -> Result<(), Fail>
+    requires { length shelf.now.items ≤ 64 }
+{
+    match row.net {
+        Net::Script(script) => {
+            let net = ScriptSockets::read(alloc, script)?;
+            ends_so(rt, alloc, row, place, shelf, net)
+        }
+        Net::Memory { pairs, ring } => {
+            assert!(rt; pairs <= 64 && ring >= 1 && ring <= 65536);
+            let net = MemoryNet::new(alloc, pairs, ring, &[])?;
+            ends_so(rt, alloc, row, place, shelf, net)
+        }
+    }
+}
+
+// Runs a row over these sockets, of which the call of a place fails, and looks at what is printed, at the status, that
+// every socket is closed, and that one failure was told, or none at the last place.
 fn ends_so<R: Abort, N: Sockets + Drop>(
     rt: &R,
     alloc: Global,
     row: &Row<'_>,
     place: usize,
+    shelf: &Vec<Box<dyn Framer>>,
     net: N,
 ) -> Result<(), Fail>
+    requires shelf { length shelf.now.items ≤ 64 }
     requires fresh { (N.net net).trace ≡ [] }
     requires unreserved { (N.net net).spare ≡ 0 }
 {
-    let Row {
-        file,
-        plan,
-        endings,
-        ..
-    } = *row;
-    assert!(rt; place < endings.len());
-    let Ending { log, code } = endings[place];
-    let last = endings.len() - 1;
+    assert!(rt; place < row.endings.len());
     let mut net = Failing::new(alloc, net, place as u64);
+    prints(rt, alloc, row, place, shelf, &mut net)?;
+    let failures = if place + 1 < row.endings.len() { 1 } else { 0 };
+    assert!(rt; each_is_closed_once(net.items()), "call {place} fails");
+    assert_eq!(rt; failures_in(net.items()), failures, "call {place} fails");
+    Ok(())
+}
+
+// Runs a row over these sockets, and looks at what is printed and at the status.
+fn prints<R: Abort, N: Sockets>(
+    rt: &R,
+    alloc: Global,
+    row: &Row<'_>,
+    place: usize,
+    shelf: &Vec<Box<dyn Framer>>,
+    net: &mut N,
+) -> Result<(), Fail>
+    requires shelf { length shelf.now.items ≤ 64 }
+    requires fresh { (N.net net.old).trace ≡ [] }
+{
+    assert!(rt; place < row.endings.len());
     let mut out = MemorySink::new(alloc, 2000, None)?;
     let mut err = MemorySink::new(alloc, 200, None)?;
-    let status = status_of(alloc, file, &mut out, &mut err, &mut net)?;
-    let text = format!(in alloc; "{plan}{log}")?;
+    let status = status_of(alloc, row.file, &mut out, &mut err, net, shelf)?;
+    let text = str::from_utf8(out.bytes());
     assert_eq!(rt;
-        str::from_utf8(out.bytes()),
-        Ok(text.as_str()),
-        "call {place} fails"
+        status.code(),
+        row.endings[place].code,
+        "call {place} fails: {text:?}"
     );
-    assert_eq!(rt; status.code(), code, "call {place} fails");
     assert!(rt; err.bytes().is_empty());
-    assert!(rt; each_is_closed_once(net.items()), "call {place} fails");
-    assert_eq!(rt;
-        failures_in(net.items()) == 1,
-        place < last,
-        "call {place} fails"
-    );
-    assert!(rt; failures_in(net.items()) <= 1, "call {place} fails");
+    is_text(rt, alloc, out.bytes(), row.plan, row.endings[place].log)
+}
+
+// The bytes are the plan with the log behind it.
+fn is_text<R: Abort>(
+    rt: &R,
+    alloc: Global,
+    bytes: &[u8],
+    plan: &str,
+    log: &str,
+) -> Result<(), Fail> {
+    let text = format!(in alloc; "{plan}{log}")?;
+    assert_eq!(rt; str::from_utf8(bytes), Ok(text.as_str()));
     Ok(())
 }
 
@@ -119,14 +152,20 @@ pub fn status_of<N: Sockets>(
     out: &mut MemorySink,
     err: &mut MemorySink,
     net: &mut N,
+    shelf: &Vec<Box<dyn Framer>>,
 ) -> Result<Status, NoMemory>
+    requires shelf { length shelf.now.items ≤ 64 }
     requires fresh { (N.net net.old).trace ≡ [] }
 {
-    let shelf = framers(alloc)?;
     let words = owned(alloc, &["run", "a.toml"])?;
+    let mut files = files_with(alloc, file)?;
+    Ok(run(alloc, &words, &mut files, out, err, net, shelf))
+}
+
+fn files_with(alloc: Global, file: &[u8]) -> Result<MemoryFiles, NoMemory> {
     let mut files = MemoryFiles::new(alloc, &[])?;
     files.add("a.toml", file)?;
-    Ok(run(alloc, &words, &mut files, out, err, net, &shelf))
+    Ok(files)
 }
 
 /// The words as a command line has them.
