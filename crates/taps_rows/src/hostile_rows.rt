@@ -94,14 +94,18 @@ fn is_refused<R: Abort>(rt: &R, alloc: Global, row: &Hostile, piece: u64) -> Res
 fn runs<R: Abort>(rt: &R, alloc: Global, file: &str, peer: &str, end: &str) -> Result<(), Fail> {
     let script = format!(in alloc; "leaf 0 completes 0\n{peer}")?;
     let out = format!(in alloc; "{READY}{end}")?;
-    let session = Row {
+    holds(rt, alloc, &failing(file, &script, &out))
+}
+
+// The row of a session that is ready, and then fails.
+fn failing<'a>(file: &'a str, script: &'a str, out: &'a str) -> Row<'a> {
+    Row {
         bytes: file.as_bytes(),
         script: script.as_bytes(),
-        out: &out,
+        out,
         code: 5,
         ..SIM
-    };
-    holds(rt, alloc, &session)
+    }
 }
 
 #[test]

@@ -1,5 +1,7 @@
 use crate::row::{Row, holds};
 use crate::sim_rows::{SILENT, SIM};
+use std::alloc::Global;
+use std::process::Abort;
 use std::test::Fail;
 
 // What is not read, or not taken, of two files. The second is read where the first is in order.
@@ -281,15 +283,24 @@ static LONG: [(u8, usize, Option<&str>); 4] = [
     (b'#', 1_048_577, Some("taps: refused s.txt: too long\n")),
 ];
 
+// A script is refused so, or read.
+fn is_answered<R: Abort>(
+    rt: &R,
+    alloc: Global,
+    script: &[u8],
+    err: Option<&str>,
+) -> Result<(), Fail> {
+    match err {
+        Some(err) => holds(rt, alloc, &refused(script, err)),
+        None => holds(rt, alloc, &silent(script)),
+    }
+}
+
 #[test]
 fn long_scripts_are_refused(rt: HostRuntime) -> Result<(), Fail> {
     for (byte, count, err) in &LONG {
         let script = vec![in rt.alloc(); *byte; *count]?;
-        let row = match err {
-            Some(err) => refused(&script, err),
-            None => silent(&script),
-        };
-        holds(&rt, rt.alloc(), &row)?;
+        is_answered(&rt, rt.alloc(), &script, *err)?;
     }
     Ok(())
 }
