@@ -2,8 +2,8 @@
 use crate::direct::{Came, Peers, Row, Seen, take_row};
 use std::test::Fail;
 use taps_exchange::Outcome;
-use taps_frames::Len16;
 use taps_framer::Framer;
+use taps_frames::Len16;
 use taps_socket::Cause;
 
 // The accept, and the closes behind the exchange.
@@ -134,8 +134,8 @@ static ROWS: [Row; 14] = [
         ],
         told: 5,
     },
-    // The other end of member 1's connection was closed: before it wrote, behind a message and the beginning of another,
-    // and behind as many messages as are needed.
+    // The other end of member 1's connection was closed: before it wrote, behind a message and the beginning of
+    // another, and behind as many messages as are needed.
     Row {
         peers: Peers::ApartClosed(b""),
         faults: &[],
@@ -185,11 +185,7 @@ static ROWS: [Row; 14] = [
         messages: &[b"a"],
         deadline_ms: 3,
         came: Came::Faulted,
-        seen: &[
-            Seen::Faulted,
-            Seen::Closed(2),
-            Seen::Closed(0),
-        ],
+        seen: &[Seen::Faulted, Seen::Closed(2), Seen::Closed(0)],
         told: 5,
     },
 ];

@@ -1,9 +1,9 @@
-// A row of both ends over sockets in memory that are given to them: how the sockets were joined, what the one end sends,
-// and what comes of it.
+// A row of both ends over sockets in memory that are given to them: how the sockets were joined, what the one end
+// sends, and what comes of it.
 ghost use Rattle.std.specs.Prelude.{◌≡◌, ◌≤◌, [], length, true};
 ghost use Rattle.taps_socket.specs.declared.item.How.TheVariants as how;
 ghost use Rattle.taps_socket.specs.Sides.{may_accept, may_send};
-ghost use Rattle.taps_loop_direct.specs.Joins.{AreTwo, HasAccepted, HasListened, HasStarted, HasWaited, MayLoop};
+ghost use Rattle.taps_loop_rows.specs.Joins.{AreTwo, HasAccepted, HasListened, HasStarted, HasWaited, MayLoop};
 
 use std::alloc::Global;
 use std::process::Abort;
@@ -21,7 +21,7 @@ use taps_socket::{Cause, How, Item, Recorder, SendAnswer, Sockets, StartAnswer, 
 use taps_stack::Stack;
 
 /// When the sockets are joined, in milliseconds.
-pub const JOINED: u64 = 5;
+const JOINED: u64 = 5;
 
 /// 127.0.0.1:9000 over TCP.
 const TARGET: Target = Target {
@@ -104,7 +104,11 @@ fn start<N: Sockets, R: Abort>(rt: &R, socket: u32, net: &mut N)
     requires { 1 ≤ (N.net net.old).spare }
     ensures { HasStarted socket (N.net net.old) (N.net net.new) }
 {
-    let StartAnswer::Started { socket: started, .. } = net.start(0, TARGET) else {
+    let StartAnswer::Started {
+        socket: started,
+        ..
+    } = net.start(0, TARGET)
+    else {
         assert!(rt; false);
         unreachable!()
     };
