@@ -23,7 +23,7 @@ const ENDED: [Seen; 5] = [
     Seen::Closed(0),
 ];
 
-static ROWS: [Row; 14] = [
+static ROWS: [Row; 15] = [
     // The deadline passes in turns of member 1, to whom nobody writes: three of them, of a millisecond each.
     Row {
         peers: Peers::Apart(b""),
@@ -67,6 +67,17 @@ static ROWS: [Row; 14] = [
         came: Came::Exchanged(Outcome::Timed, 1, &[]),
         seen: &APART,
         told: 8,
+    },
+    // It passes in a turn of member 1 while a message waits, and member 0 has its turn still: the message is sent.
+    Row {
+        peers: Peers::Apart(b""),
+        faults: &[],
+        ring: 7,
+        messages: &[b"a", b"b"],
+        deadline_ms: 1,
+        came: Came::Exchanged(Outcome::Timed, 2, &[]),
+        seen: &APART,
+        told: 6,
     },
     // It passes in turns of member 0, since member 1 needs no more.
     Row {
