@@ -4,7 +4,7 @@ use std::test::Fail;
 
 type Row = (&'static [u8], Net<'static>, Printed<'static>);
 
-const ROWS: [Row; 17] = [
+const ROWS: [Row; 19] = [
     // The second connection loses, and the winner's is the one that is accepted.
     (
         b"framers = [\"len16\"]\n[race]\nmode = \"simultaneous\"\n[[path]]\ninterface = \"wlan0\"\n[[path]]\ninterface = \"eth0\"\n[[local]]\naddress = \"127.0.0.1:9000\"\n[[remote]]\naddress = \"127.0.0.1:9000\"\n[[message]]\ntext = \"a\"\n[exchange]\nrole = \"loop\"\n",
@@ -223,6 +223,31 @@ const ROWS: [Row; 17] = [
         },
         Printed {
             out: "leaves 1\n0 any udp 127.0.0.1:9000 +0\nestablishment-error no-candidate\n",
+            code: 4,
+        },
+    ),
+    // There is no address to listen on, and so no socket call.
+    (
+        b"framers = [\"len16\"]\n[[remote]]\naddress = \"127.0.0.1:9000\"\n[[message]]\ntext = \"a\"\n[exchange]\nrole = \"loop\"\n",
+        Net {
+            pairs: 1,
+            ring: 4,
+            faults: &[],
+        },
+        Printed {
+            out: "leaves 1\n0 any tcp 127.0.0.1:9000 +0\nestablishment-error no-candidate\n",
+            code: 4,
+        },
+    ),
+    (
+        b"framers = [\"len16\"]\n[[path]]\ninterface = \"eth0\"\n[[local]]\ninterface = \"eth0\"\n[[remote]]\naddress = \"127.0.0.1:9000\"\n[[message]]\ntext = \"a\"\n[exchange]\nrole = \"loop\"\n",
+        Net {
+            pairs: 1,
+            ring: 4,
+            faults: &[],
+        },
+        Printed {
+            out: "leaves 1\n0 eth0 tcp 127.0.0.1:9000 +0\nestablishment-error no-candidate\n",
             code: 4,
         },
     ),
