@@ -28,6 +28,7 @@ impl Look {
 
     /// Looks on at the unread bytes, up to the one that settles what they are, and counts them where
     /// the layer is watched.
+    #[inline(always)]
     pub(crate) fn look_on<L: Ledger>(
         &mut self,
         framer: &Box<dyn Framer>,
@@ -62,6 +63,7 @@ impl Look {
 }
 
 /// Looks at the next bytes of a frame, and counts them where the layer is watched.
+#[inline(always)]
 pub(crate) fn advance_watched<L: Ledger>(
     framer: &Box<dyn Framer>,
     index: u64,

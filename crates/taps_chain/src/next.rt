@@ -28,6 +28,7 @@ pub(crate) enum Found {
 
 /// What stands first in unread bytes, at which layer 0 looks on from where it stopped. The bytes of
 /// the watched layer are counted.
+#[inline(always)]
 pub(crate) fn next_in<L: Ledger>(
     chain: &Chain<'_>,
     first: &Box<dyn Framer>,
@@ -88,6 +89,7 @@ fn message_in<L: Ledger>(
 }
 
 /// What stands first in unread bytes, with no count.
+#[inline(always)]
 pub(crate) fn next_uncounted(
     chain: &Chain<'_>,
     first: &Box<dyn Framer>,
@@ -106,6 +108,7 @@ pub(crate) fn next_uncounted(
 }
 
 // The same with a count that nobody reads.
+#[inline(always)]
 fn next_from<L: Ledger>(
     chain: &Chain<'_>,
     first: &Box<dyn Framer>,

@@ -37,7 +37,8 @@ pub fn run_maker<M: Maker<L>, L: Layers, O: Sink, E: Sink>(
     err: &mut E,
 ) -> Status
     requires { layers_on ⟦<dyn Framer as Framer>⟧ shelf.now ≡ L.layers }
-    ensures { IsMade (M.making maker.now) (O.state out.old) (O.state out.new) (E.state err.old) (E.state err.new) result }
+    ensures { IsMade (M.making maker.now) (O.state out.old) (O.state out.new)
+        (E.state err.old) (E.state err.new) result }
 {
     let ended = write_made::<M, L, O>(alloc, maker, shelf, out);
     say_under(alloc, err, maker.name(), &ended);

@@ -69,7 +69,8 @@ HasNext Becomes r before after listener first served (Err none) =
 pub record IsAcceptedAll {N : Type 0} (Becomes : N → List Call → N → Type 0) (r : ListenRules) (before after : N)
     (listener first : ℕ) (end : ListenEnd) (members : List AnsweredState) : Type 0 where
   pub served : List Served
-  pub goes : Goes Becomes r before after (course_at [] (accepting listener first)) (course_at served (stopping listener end))
+  pub goes : Goes Becomes r before after (course_at [] (accepting listener first))
+      (course_at served (stopping listener end))
   pub told : answered_all r served ≡ members
 
 abbrev pub HasAcceptedAll : {N : Type 0} → (N → List Call → N → Type 0) → ListenRules → N → N → ℕ → ℕ →

@@ -59,7 +59,8 @@ pub fn ask_in_turn<N: Reporting, S: Open>(
     requires deadline { deadline < 2 ^ 63 }
     requires some { (N.net net.old).trace ≢ [] }
     ensures read { (x : Ends) (calls : List Call) (others : Turn) (piece more needs : ℕ) (ms : List (List ℕ)) →
-        IsEnd x (is_stream to.old.stack) (layers_of ⟦<dyn Framer as Framer>⟧ to.old.chain) to.old.socket piece deadline →
+        IsEnd x (is_stream to.old.stack) (layers_of ⟦<dyn Framer as Framer>⟧ to.old.chain) to.old.socket piece
+        deadline →
         IsToHear x calls others more needs (N.net net.old).told →
         more ≡ one_true waits →
         IsKept x calls (is_stream to.old.stack) (layers_of ⟦<dyn Framer as Framer>⟧ to.old.chain) piece
@@ -72,8 +73,9 @@ pub fn ask_in_turn<N: Reporting, S: Open>(
         HasAsked N.Becomes x calls net.old net.new (λ later.
         IsReadIf x calls later (is_stream to.old.stack) (layers_of ⟦<dyn Framer as Framer>⟧ to.old.chain) piece more
         needs result to.new.receiver.ended (unread_of to.new.receiver.source) ms) }
-    ensures sooner { IfCame result (IsSooner waits deadline (N.net net.old).told (N.net net.new).told to.old.receiver.ended
-        (unread_of to.old.receiver.source) to.new.receiver.ended (unread_of to.new.receiver.source)) }
+    ensures sooner { IfCame result (IsSooner waits deadline (N.net net.old).told (N.net net.new).told
+        to.old.receiver.ended (unread_of to.old.receiver.source) to.new.receiver.ended
+        (unread_of to.new.receiver.source)) }
     ensures still { result ≡ Ok Asked.Nothing →
         count_given (unread_of to.new.receiver.source) ≡ count_given (unread_of to.old.receiver.source) }
     ensures changes { Changes to.old.socket 1 (N.net net.old) (N.net net.new) }
@@ -141,7 +143,8 @@ pub fn hear_in_turn<N: Reporting, S: Open>(
     requires deadline { deadline < 2 ^ 63 }
     requires some { (N.net net.old).trace ≢ [] }
     ensures heard { (x : Ends) (calls : List Call) (others : Turn) (piece more : ℕ) →
-        IsEnd x (is_stream to.old.stack) (layers_of ⟦<dyn Framer as Framer>⟧ to.old.chain) to.old.socket piece deadline →
+        IsEnd x (is_stream to.old.stack) (layers_of ⟦<dyn Framer as Framer>⟧ to.old.chain) to.old.socket piece
+        deadline →
         IsToHear x calls others more needs (N.net net.old).told →
         more ≡ one_true waits →
         IsKept x calls (is_stream to.old.stack) (layers_of ⟦<dyn Framer as Framer>⟧ to.old.chain) piece
@@ -149,8 +152,9 @@ pub fn hear_in_turn<N: Reporting, S: Open>(
         HasAsked N.Becomes x calls net.old net.new (λ later.
         IsInIf x calls later (is_stream to.old.stack) (layers_of ⟦<dyn Framer as Framer>⟧ to.old.chain) piece more needs
         result to.new.receiver.ended (unread_of to.new.receiver.source) heard.new.items) }
-    ensures sooner { IsInSooner needs waits deadline (N.net net.old).told (N.net net.new).told result to.old.receiver.ended
-        (unread_of to.old.receiver.source) to.new.receiver.ended (unread_of to.new.receiver.source) }
+    ensures sooner { IsInSooner needs waits deadline (N.net net.old).told (N.net net.new).told result
+        to.old.receiver.ended (unread_of to.old.receiver.source) to.new.receiver.ended
+        (unread_of to.new.receiver.source) }
     ensures changes { Changes to.old.socket 1 (N.net net.old) (N.net net.new) }
     ensures spare { IfInGoesOn result ((N.net net.old).spare + one_unless to.new.receiver.ended ≤
         (N.net net.new).spare + one_unless to.old.receiver.ended) }
@@ -191,7 +195,8 @@ fn read_on<N: Reporting, S: Open>(
     requires deadline { deadline < 2 ^ 63 }
     requires some { (N.net net.old).trace ≢ [] }
     ensures heard { (x : Ends) (calls : List Call) (others : Turn) (piece more : ℕ) →
-        IsEnd x (is_stream to.old.stack) (layers_of ⟦<dyn Framer as Framer>⟧ to.old.chain) to.old.socket piece deadline →
+        IsEnd x (is_stream to.old.stack) (layers_of ⟦<dyn Framer as Framer>⟧ to.old.chain) to.old.socket piece
+        deadline →
         IsToHear x calls others more needs (N.net net.old).told →
         more ≡ one_true waits →
         IsKept x calls (is_stream to.old.stack) (layers_of ⟦<dyn Framer as Framer>⟧ to.old.chain) piece
@@ -205,8 +210,9 @@ fn read_on<N: Reporting, S: Open>(
         HasAsked N.Becomes x calls net.old net.new (λ later.
         IsInIf x calls later (is_stream to.old.stack) (layers_of ⟦<dyn Framer as Framer>⟧ to.old.chain) piece more needs
         result to.new.receiver.ended (unread_of to.new.receiver.source) heard.new.items) }
-    ensures sooner { IsInSooner needs waits deadline (N.net net.old).told (N.net net.new).told result to.old.receiver.ended
-        (unread_of to.old.receiver.source) to.new.receiver.ended (unread_of to.new.receiver.source) }
+    ensures sooner { IsInSooner needs waits deadline (N.net net.old).told (N.net net.new).told result
+        to.old.receiver.ended (unread_of to.old.receiver.source) to.new.receiver.ended
+        (unread_of to.new.receiver.source) }
     ensures changes { Changes to.old.socket 1 (N.net net.old) (N.net net.new) }
     ensures spare { IfInGoesOn result ((N.net net.old).spare + one_unless to.new.receiver.ended ≤
         (N.net net.new).spare + one_unless to.old.receiver.ended) }

@@ -1,4 +1,3 @@
 pub mod Appended
 pub mod PartsAre
-pub mod Digits
 pub mod Steps

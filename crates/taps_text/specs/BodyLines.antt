@@ -7,9 +7,9 @@ use Rattle.std.specs.List.{flat_map}
 abbrev pub hex_digit : ℕ → ℕ
 hex_digit number = if nat_lt number 10 then number + 48 else number + 87
 
--- the digit of what is left of a number behind its sixteens
-abbrev pub half_digit : ℕ → ℕ
-half_digit number = hex_digit (number % 16)
+-- 1 where the character of a number below 16 is a letter, and 0 where it is not
+abbrev pub letters : ℕ → ℕ
+letters number = if nat_lt number 10 then 0 else 1
 
 -- the two digits of a byte, of which the first counts sixteens
 abbrev pub byte_digits : ℕ → List ℕ

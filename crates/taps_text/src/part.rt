@@ -52,7 +52,10 @@ fn append_part(text: &mut Vec<u8>, part: &Part<'_>) -> Result<(), NoMemory>
 pub(crate) fn append(text: &mut Vec<u8>, bytes: &[u8]) -> Result<(), NoMemory>
     ensures { Appends result text.old.items text.new.items bytes.now }
 {
-    Ok(text.extend_from_slice(bytes)?)
+    match bytes {
+        [byte] => Ok(text.push(*byte)?),
+        _ => Ok(text.extend_from_slice(bytes)?),
+    }
 }
 
 fn append_number(text: &mut Vec<u8>, words: &[u8], number: u64) -> Result<(), NoMemory>

@@ -1,11 +1,7 @@
-use Rattle.std.proofs.Common.{◌≡◌, take, drop}
-use Rattle.std.specs.Prelude.{map}
-use Rattle.taps_text.specs.BodyLines.{half_digit}
+use Rattle.std.proofs.Common.{◌≡◌, ◌*◌, take}
+use Rattle.std.specs.List.{flat_map}
+use Rattle.taps_text.specs.BodyLines.{byte_digits}
 use Rattle.taps_text.proofs.hex.write_digits.Given as goal
 
 abbrev pub invariant-loop-i : goal.invariant-loop-i
-invariant-loop-i l =
-    record {
-      written : take l.i l.place ≡ map half_digit (take l.i l.fn.place);
-      left : drop l.i l.place ≡ drop l.i l.fn.place;
-    }
+invariant-loop-i l = take (2 * l.i) l.place ≡ flat_map byte_digits (take l.i l.bytes)
