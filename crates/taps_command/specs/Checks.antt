@@ -1,12 +1,10 @@
 -- The checks of the files in their order: what they give, or the first check that fails (local).
-use Rattle.std.specs.Prelude.{ℕ, zero, suc, ⊤, Bool, true, false, List, [], Option, Some, None, Result, Ok, Err, length, nat_le, if◌then◌else◌}
+use Rattle.std.specs.Prelude.{ℕ, zero, suc, ⊤, List, [], Option, Some, None, Result, Ok, Err, length, nat_le, if◌then◌else◌}
 use Rattle.taps_base.specs.Results.{◌>>=◌}
 use Rattle.taps_endpoint.specs.declared.address.Address.{Address}
 use Rattle.taps_endpoint.specs.DerivedAddresses.{derived_addresses}
 use Rattle.taps_framer.specs.Layers.{Layer}
 use Rattle.taps_preconnection.specs.File.{preconnection_of}
-use Rattle.taps_preconnection.specs.declared.exchange.RunRole.{RunRole}
-use Rattle.taps_preconnection.specs.declared.exchange.RunRole.TheVariants as role
 use Rattle.taps_table.specs.declared.pre_error.PreError.{PreError}
 use Rattle.taps_preconnection.specs.declared.preconnection.Preconnection.{Preconnection}
 use Rattle.taps_text.specs.declared.refusal.Refusal.{Refusal}
@@ -28,12 +26,6 @@ most_framed = 4194304
 -- what a command asks of FILE besides its format: the addresses that it needs
 pub record FileRules : Type 0 where
   pub addresses : Preconnection → Result (List Address) Refusal
-
--- the role is that of Initiate
-abbrev pub is_initiate : RunRole → Bool
-is_initiate role.Initiate = true
-is_initiate role.Listen = false
-is_initiate role.Loop = false
 
 -- there are no more than 32 addresses
 abbrev pub at_most_32 : List Address → Result (List Address) Refusal

@@ -16,7 +16,7 @@ use std::alloc::Global;
 use taps_base::List;
 use taps_endpoint::{Address, DeriveError, derive_addresses};
 use taps_framer::Framer;
-use taps_preconnection::{PreError, Preconnection, RunRole, read_preconnection};
+use taps_preconnection::{PreError, Preconnection, read_preconnection};
 use taps_text::Refusal;
 
 /// How many bytes FILE and SCRIPT may have.
@@ -103,17 +103,6 @@ fn address<R: FileRules>(
         places,
         addresses,
     })
-}
-
-/// Whether the role is that of Initiate.
-pub fn is_initiate(role: RunRole) -> bool
-    ensures { result ≡ checks.is_initiate role }
-{
-    match role {
-        RunRole::Initiate => true,
-        RunRole::Listen => false,
-        RunRole::Loop => false,
-    }
 }
 
 /// The addresses of the remotes, each once, of which there may be 32.

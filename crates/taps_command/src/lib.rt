@@ -30,7 +30,7 @@ pub use layers::Layers;
 pub use shelf::{Shelf, chain};
 
 // FILE, by its checks and by the rules of a command.
-pub use checks::{FileRules, MOST_BYTES, MOST_FRAMED, check_first, derive, is_initiate};
+pub use checks::{FileRules, MOST_BYTES, MOST_FRAMED, check_first, derive};
 pub use ready::Ready;
 pub use two_files::TwoFiles;
 
