@@ -21,7 +21,7 @@ const FILE: &[u8] =
 const BYTES: &[u8] = b"\x00\x05\x32\x3a\x68\x69\x2c\x00\x05\x32\x3a";
 
 // There is no third read.
-const ROWS: [Row; 3] = [
+static ROWS: [Row; 3] = [
     (0, "", "taps: file fault a.toml\n", 6),
     (1, "", "taps: file fault b.bin\n", 6),
     (2, "message 0 6869\nrest 4\n", "", 5),
@@ -93,8 +93,8 @@ fn files_of(alloc: Global, fails: u64) -> Result<MemoryFiles, NoMemory> {
 #[test]
 fn reads_that_fail(rt: HostRuntime) -> Result<(), Fail> {
     let shelf = framers(rt.alloc())?;
-    for row in ROWS {
-        is_told(&rt, rt.alloc(), &shelf, row)?;
+    for row in &ROWS {
+        is_told(&rt, rt.alloc(), &shelf, *row)?;
     }
     Ok(())
 }

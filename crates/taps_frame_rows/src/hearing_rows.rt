@@ -12,7 +12,7 @@ use taps_chain::{BadAt, Chain, Heard, Hearing, WholeAnswer, WrapError, hear_byte
 use taps_framer::Framer;
 
 // The number of bytes of each piece.
-const PIECES: [usize; 4] = [1, 7, 4_096, 65_536];
+static PIECES: [usize; 4] = [1, 7, 4_096, 65_536];
 
 // Bytes through a length byte over pairs, in which the bodies 7 and 9 are heard.
 struct Row {
@@ -73,10 +73,10 @@ fn is_heard(rt: &impl Abort, alloc: Global, chain: &Chain<'_>, row: &Row) -> Res
     requires some { 0 < length (layers_of ⟦<dyn Framer as Framer>⟧ chain.now) }
     requires few { length row.now.bytes.now ≤ 4194304 }
 {
-    for piece in PIECES {
+    for piece in &PIECES {
         let mut sink = List::new(alloc);
         let copy = chain.copy()?;
-        let hearing = hear_bytes(copy, row.bytes, piece.max(1), &mut sink);
+        let hearing = hear_bytes(copy, row.bytes, (*piece).max(1), &mut sink);
         is_as(rt, row, &hearing, &sink);
     }
     Ok(())

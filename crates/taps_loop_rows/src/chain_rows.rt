@@ -8,9 +8,9 @@ use std::test::Fail;
 use taps_framer::Framer;
 
 // The bytes of a ring.
-const RINGS: [u32; 4] = [1, 7, 4096, 65536];
+static RINGS: [u32; 4] = [1, 7, 4096, 65536];
 
-const NAMES: [&str; 9] = [
+static NAMES: [&str; 9] = [
     "len16",
     "len32",
     "varint",
@@ -62,10 +62,10 @@ fn take_row<R: Abort>(
     requires { length shelf.now.items ≤ 64 }
 {
     let file = file_of(alloc, names)?;
-    for ring in RINGS {
+    for ring in &RINGS {
         let sockets = Net {
             pairs: 1,
-            ring,
+            ring: *ring,
             faults: &[],
         };
         prints(rt, alloc, shelf, &file, sockets, printed)?;
@@ -76,8 +76,8 @@ fn take_row<R: Abort>(
 #[test]
 fn both_ends_through_each_framer(rt: HostRuntime) -> Result<(), Fail> {
     let shelf = nine(rt.alloc())?;
-    for name in NAMES {
-        take_row(&rt, rt.alloc(), &shelf, &[name], DONE)?;
+    for name in &NAMES {
+        take_row(&rt, rt.alloc(), &shelf, &[*name], DONE)?;
     }
     Ok(())
 }
@@ -85,11 +85,11 @@ fn both_ends_through_each_framer(rt: HostRuntime) -> Result<(), Fail> {
 #[test]
 fn both_ends_through_each_two_framers(rt: HostRuntime) -> Result<(), Fail> {
     let shelf = nine(rt.alloc())?;
-    for below in NAMES {
-        for above in NAMES {
-            let lines = below == "line" && above == "line";
+    for below in &NAMES {
+        for above in &NAMES {
+            let lines = *below == "line" && *above == "line";
             let printed = if lines { REFUSED } else { DONE };
-            take_row(&rt, rt.alloc(), &shelf, &[below, above], printed)?;
+            take_row(&rt, rt.alloc(), &shelf, &[*below, *above], printed)?;
         }
     }
     Ok(())

@@ -16,7 +16,7 @@ use taps_memory::MemoryNet;
 use taps_socket::Sockets;
 
 // The bytes of a ring.
-const RINGS: [u32; 4] = [1, 7, 4096, 65536];
+static RINGS: [u32; 4] = [1, 7, 4096, 65536];
 
 const WORD: [u8; 5] = *b"hello";
 
@@ -102,9 +102,9 @@ fn take_row(
 #[test]
 fn messages_through_each_framer(rt: HostRuntime) -> Result<(), Fail> {
     let shelf = nine(rt.alloc())?;
-    for ring in RINGS {
+    for ring in &RINGS {
         for place in 0..9 {
-            take_row(&rt, rt.alloc(), &shelf, &[place], ring)?;
+            take_row(&rt, rt.alloc(), &shelf, &[place], *ring)?;
         }
     }
     Ok(())
@@ -113,10 +113,10 @@ fn messages_through_each_framer(rt: HostRuntime) -> Result<(), Fail> {
 #[test]
 fn messages_through_each_two_framers(rt: HostRuntime) -> Result<(), Fail> {
     let shelf = nine(rt.alloc())?;
-    for ring in RINGS {
+    for ring in &RINGS {
         for below in 0..9 {
             for above in 0..9 {
-                take_row(&rt, rt.alloc(), &shelf, &[below, above], ring)?;
+                take_row(&rt, rt.alloc(), &shelf, &[below, above], *ring)?;
             }
         }
     }

@@ -77,7 +77,7 @@ const HOSTILE: [Hostile; 12] = [
     ),
 ];
 
-const PIECES: [u64; 2] = [1, 65536];
+static PIECES: [u64; 2] = [1, 65536];
 
 const READY: &str =
     "leaves 1\n0 any tcp 127.0.0.1:9000 +0\nbegin 0\nstart 0 socket 0 at 0\nwait 30000 completed 0 at 0\nready 0\n";
@@ -111,8 +111,8 @@ fn failing<'a>(file: &'a str, script: &'a str, out: &'a str) -> Row<'a> {
 #[test]
 fn hostile_peers_are_refused(rt: HostRuntime) -> Result<(), Fail> {
     for row in &HOSTILE {
-        for piece in PIECES {
-            is_refused(&rt, rt.alloc(), row, piece)?;
+        for piece in &PIECES {
+            is_refused(&rt, rt.alloc(), row, *piece)?;
         }
     }
     Ok(())

@@ -7,7 +7,7 @@ use std::alloc::{AllocError, Global};
 use std::process::Abort;
 use std::test::Fail;
 
-const FATES: [Fate; 12] = [
+static FATES: [Fate; 12] = [
     Fate::Silent,
     Fate::Refuses,
     Fate::Completes(0),
@@ -22,7 +22,7 @@ const FATES: [Fate; 12] = [
     Fate::Breaks(290),
 ];
 
-const DELAYS: [u64; 2] = [0, 7];
+static DELAYS: [u64; 2] = [0, 7];
 
 /// A mode: the gap before the second leaf, the plan, and the file of a race without a moment at which
 /// the application gives up, and with it.
@@ -116,14 +116,14 @@ fn failover_races(rt: HostRuntime) -> Result<(), Fail> {
 
 // The mode at all moments.
 fn sweep<R: Abort>(rt: &R, alloc: Global, mode: &Mode) -> Result<(), Fail> {
-    for late in DELAYS {
-        sweep_fates(rt, alloc, mode, mode.file, times(mode, None, late))?;
+    for late in &DELAYS {
+        sweep_fates(rt, alloc, mode, mode.file, times(mode, None, *late))?;
         sweep_fates(
             rt,
             alloc,
             mode,
             mode.cancelled,
-            times(mode, Some(250), late),
+            times(mode, Some(250), *late),
         )?;
     }
     Ok(())
@@ -146,9 +146,9 @@ fn sweep_fates<R: Abort>(
     file: &[u8],
     times: Times,
 ) -> Result<(), Fail> {
-    for first in FATES {
-        for second in FATES {
-            agrees(rt, alloc, mode.plan, file, times, [first, second])?;
+    for first in &FATES {
+        for second in &FATES {
+            agrees(rt, alloc, mode.plan, file, times, [*first, *second])?;
         }
     }
     Ok(())
