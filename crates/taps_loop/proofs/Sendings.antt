@@ -31,7 +31,7 @@ use Rattle.taps_connection.specs.Outboxes.{Stand, begun, ending, refused, all_ou
 use Rattle.taps_connection.specs.Pushes.{left_at}
 use Rattle.taps_connection.specs.Runs.{AllAsked, IsRun}
 use Rattle.taps_connection.specs.Senders as senders
-use Rattle.taps_connection.specs.Senders.{settled, settled_by, queued, idle, turn_of, turn_in, turn_if, begun_of, goes, expires, refuses, behind_by, tail_of, AreOfOne, IsSent, IsStopped, IsSame, IsPushed, IsDriven}
+use Rattle.taps_connection.specs.Senders.{settled, settled_by, queued, idle, turn_of, turn_in, turn_if, begun_of, goes, expires, refuses, behind_by, tail_of, AreOfOne, IsStopped, IsSame, IsPushed, IsDriven}
 use Rattle.taps_exchange.specs.declared.outcome.Outcome.TheVariants as outcome
 use Rattle.taps_exchange.specs.Decodings.{message, need}
 use Rattle.taps_exchange.specs.Members.{Member, calls_on}

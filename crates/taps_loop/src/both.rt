@@ -1,24 +1,21 @@
 // The exchange of both ends, behind which both sockets are closed.
-ghost use Rattle.std.specs.Prelude.{◌≡◌, ◌≢◌, ◌≤◌, ◌<◌, ◌^◌, ◌-◌, ◌+◌, ◌∷◌, ℕ, [], List, None, true, false, length};
+ghost use Rattle.std.specs.Prelude.{◌≡◌, ◌≢◌, ◌≤◌, ◌<◌, ◌^◌, ◌-◌, ◌∷◌, ℕ, [], None, true, false, length};
 ghost use Rattle.taps_chain.specs.ChainLaws.{AreFramers};
 ghost use Rattle.taps_chain.specs.Layers.{layers_of};
 ghost use Rattle.taps_connection.specs.Conditions.{IsHeld};
-ghost use Rattle.taps_connection.specs.Encodings.{encoding_of};
 ghost use Rattle.taps_connection.specs.Histories.{Represents};
 ghost use Rattle.taps_connection.specs.Inboxes.{IsSoundReceiver};
 ghost use Rattle.taps_connection.specs.Senders.{IsNewSender, queued};
 ghost use Rattle.taps_connection.specs.Sound.{IsSound};
 ghost use Rattle.taps_connection.specs.Sources.{unread_of};
 ghost use Rattle.taps_connection.specs.Unread.{first_unread};
-ghost use Rattle.taps_exchange.specs.Accepting.{accepted_of};
-ghost use Rattle.taps_exchange.specs.Exchanged.{IsFresh};
-ghost use Rattle.taps_socket.specs.Calls.{Call, closes};
+ghost use Rattle.taps_socket.specs.Calls.{closes};
 ghost use Rattle.taps_socket.specs.LiveSockets.{live_sockets};
 ghost use Rattle.taps_socket.specs.RaceSockets.{has};
 ghost use Rattle.taps_stack.specs.StackTable.{is_stream};
+ghost use Rattle.taps_loop.specs.Connections.{FromFirst};
 ghost use Rattle.taps_loop.specs.Looped.{AreEndsOver, HasClosedBoth, ClosesTwo, ClosesBoth};
 ghost use Rattle.taps_loop.specs.Loops.{Ends};
-ghost use Rattle.taps_loop.specs.Rounds.{AreEnds, AreKept};
 
 use crate::reporting::Reporting;
 use crate::turns::take_turns;
@@ -84,15 +81,9 @@ fn exchange_open<N: Reporting>(
     requires spare { 6 ≤ (N.net net.old).spare }
     requires deadline { deadline < 2 ^ 63 }
     requires some { (N.net net.old).trace ≢ [] }
-    ensures closed { (x : Ends) (piece : ℕ) →
-        AreEnds x (encoding_of (is_stream from.entry.stack) (layers_of ⟦<dyn Framer as Framer>⟧ from.entry.chain))
-        from.entry.socket (is_stream to.entry.stack) (layers_of ⟦<dyn Framer as Framer>⟧ to.entry.chain)
-        to.entry.socket piece deadline →
-        AreKept x [] (encoding_of (is_stream from.entry.stack) (layers_of ⟦<dyn Framer as Framer>⟧ from.entry.chain))
-        (is_stream to.entry.stack) (layers_of ⟦<dyn Framer as Framer>⟧ to.entry.chain) piece from.entry.sender
-        (N.net net.old).told to.entry.receiver.ended (unread_of to.entry.receiver.source) [] →
-        x.from.messages ≡ queued from.entry.sender →
-        HasClosedBoth N.Becomes x from.entry.socket to.entry.socket net.old net.new result }
+    ensures closed { FromFirst ⟦<dyn Framer as Framer>⟧ from.entry to.entry deadline (N.net net.old).told []
+        (λ x. x.from.messages ≡ queued from.entry.sender)
+        (λ x. HasClosedBoth N.Becomes x from.entry.socket to.entry.socket net.old net.new result) }
     ensures closes { ClosesBoth from.entry.socket to.entry.socket (N.net net.old) (N.net net.new) }
 {
     let mut heard = Vec::new(alloc);

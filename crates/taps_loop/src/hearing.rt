@@ -13,9 +13,10 @@ ghost use Rattle.taps_exchange.specs.Members.{calls_on, pieces_read};
 ghost use Rattle.taps_exchange.specs.Turns.{Turn};
 ghost use Rattle.taps_socket.specs.Calls.{Call};
 ghost use Rattle.taps_stack.specs.StackTable.{is_stream};
+ghost use Rattle.taps_loop.specs.Connections.{IsEndOf, IsKeptOf, HasHeard};
 ghost use Rattle.taps_loop.specs.Loops.{Ends};
 ghost use Rattle.taps_loop.specs.Looks.{AreAll};
-ghost use Rattle.taps_loop.specs.Hears.{IsEnd, IsKept, IsToHear, HasAsked, IsReadIf, IsInIf, IsInSooner, IfInGoesOn, IsSooner, IfCame, asked_by, timed_by, in_found, soon_by, one_true};
+ghost use Rattle.taps_loop.specs.Hears.{IsToHear, HasAsked, IsReadIf, IsInSooner, IfInGoesOn, IsSooner, IfCame, asked_by, timed_by, in_found, soon_by, one_true};
 
 use crate::looked::{Look, look_for};
 use crate::reporting::Reporting;
@@ -59,12 +60,10 @@ pub fn ask_in_turn<N: Reporting, S: Open>(
     requires deadline { deadline < 2 ^ 63 }
     requires some { (N.net net.old).trace ≢ [] }
     ensures read { (x : Ends) (calls : List Call) (others : Turn) (piece more needs : ℕ) (ms : List (List ℕ)) →
-        IsEnd x (is_stream to.old.stack) (layers_of ⟦<dyn Framer as Framer>⟧ to.old.chain) to.old.socket piece
-        deadline →
+        IsEndOf ⟦<dyn Framer as Framer>⟧ x to.old piece deadline →
         IsToHear x calls others more needs (N.net net.old).told →
         more ≡ one_true waits →
-        IsKept x calls (is_stream to.old.stack) (layers_of ⟦<dyn Framer as Framer>⟧ to.old.chain) piece
-        to.old.receiver.ended (unread_of to.old.receiver.source) ms →
+        IsKeptOf ⟦<dyn Framer as Framer>⟧ x calls to.old piece ms →
         IsLacking (decoding_of (is_stream to.old.stack) (layers_of ⟦<dyn Framer as Framer>⟧ to.old.chain)) piece needs
         (pieces_read (calls_on x.to.socket calls)) to.old.receiver.ended (unread_of to.old.receiver.source) ms →
         length ms < needs →
@@ -143,15 +142,12 @@ pub fn hear_in_turn<N: Reporting, S: Open>(
     requires deadline { deadline < 2 ^ 63 }
     requires some { (N.net net.old).trace ≢ [] }
     ensures heard { (x : Ends) (calls : List Call) (others : Turn) (piece more : ℕ) →
-        IsEnd x (is_stream to.old.stack) (layers_of ⟦<dyn Framer as Framer>⟧ to.old.chain) to.old.socket piece
-        deadline →
+        IsEndOf ⟦<dyn Framer as Framer>⟧ x to.old piece deadline →
         IsToHear x calls others more needs (N.net net.old).told →
         more ≡ one_true waits →
-        IsKept x calls (is_stream to.old.stack) (layers_of ⟦<dyn Framer as Framer>⟧ to.old.chain) piece
-        to.old.receiver.ended (unread_of to.old.receiver.source) heard.old.items →
-        HasAsked N.Becomes x calls net.old net.new (λ later.
-        IsInIf x calls later (is_stream to.old.stack) (layers_of ⟦<dyn Framer as Framer>⟧ to.old.chain) piece more needs
-        result to.new.receiver.ended (unread_of to.new.receiver.source) heard.new.items) }
+        IsKeptOf ⟦<dyn Framer as Framer>⟧ x calls to.old piece heard.old.items →
+        HasHeard ⟦<dyn Framer as Framer>⟧ N.Becomes x calls to.old net.old net.new piece more needs result
+        to.new.receiver heard.new.items }
     ensures sooner { IsInSooner needs waits deadline (N.net net.old).told (N.net net.new).told result
         to.old.receiver.ended (unread_of to.old.receiver.source) to.new.receiver.ended
         (unread_of to.new.receiver.source) }
@@ -195,21 +191,18 @@ fn read_on<N: Reporting, S: Open>(
     requires deadline { deadline < 2 ^ 63 }
     requires some { (N.net net.old).trace ≢ [] }
     ensures heard { (x : Ends) (calls : List Call) (others : Turn) (piece more : ℕ) →
-        IsEnd x (is_stream to.old.stack) (layers_of ⟦<dyn Framer as Framer>⟧ to.old.chain) to.old.socket piece
-        deadline →
+        IsEndOf ⟦<dyn Framer as Framer>⟧ x to.old piece deadline →
         IsToHear x calls others more needs (N.net net.old).told →
         more ≡ one_true waits →
-        IsKept x calls (is_stream to.old.stack) (layers_of ⟦<dyn Framer as Framer>⟧ to.old.chain) piece
-        to.old.receiver.ended (unread_of to.old.receiver.source) heard.old.items →
+        IsKeptOf ⟦<dyn Framer as Framer>⟧ x calls to.old piece heard.old.items →
         IsLacking (decoding_of (is_stream to.old.stack) (layers_of ⟦<dyn Framer as Framer>⟧ to.old.chain)) piece needs
         (pieces_read (calls_on x.to.socket calls)) to.old.receiver.ended (unread_of to.old.receiver.source)
         heard.old.items →
         length heard.old.items < needs →
         AreAll (decoding_of (is_stream to.old.stack) (layers_of ⟦<dyn Framer as Framer>⟧ to.old.chain))
         (pieces_read (calls_on x.to.socket calls)) to.old.receiver.ended heard.old.items →
-        HasAsked N.Becomes x calls net.old net.new (λ later.
-        IsInIf x calls later (is_stream to.old.stack) (layers_of ⟦<dyn Framer as Framer>⟧ to.old.chain) piece more needs
-        result to.new.receiver.ended (unread_of to.new.receiver.source) heard.new.items) }
+        HasHeard ⟦<dyn Framer as Framer>⟧ N.Becomes x calls to.old net.old net.new piece more needs result
+        to.new.receiver heard.new.items }
     ensures sooner { IsInSooner needs waits deadline (N.net net.old).told (N.net net.new).told result
         to.old.receiver.ended (unread_of to.old.receiver.source) to.new.receiver.ended
         (unread_of to.new.receiver.source) }

@@ -1,9 +1,8 @@
 // A round of the ends: the one sends, and then the other hears.
-ghost use Rattle.std.specs.Prelude.{◌≡◌, ◌≢◌, ◌≤◌, ◌<◌, ◌^◌, ◌+◌, ℕ, [], List, false};
+ghost use Rattle.std.specs.Prelude.{◌≡◌, ◌≢◌, ◌≤◌, ◌<◌, ◌^◌, ◌+◌, [], false};
 ghost use Rattle.taps_chain.specs.ChainLaws.{AreFramers};
 ghost use Rattle.taps_chain.specs.Layers.{layers_of};
 ghost use Rattle.taps_connection.specs.Conditions.{IsHeld};
-ghost use Rattle.taps_connection.specs.Encodings.{encoding_of};
 ghost use Rattle.taps_connection.specs.Inboxes.{IsSoundReceiver};
 ghost use Rattle.taps_connection.specs.Senders.{rest_of};
 ghost use Rattle.taps_connection.specs.Sound.{IsSound};
@@ -12,11 +11,10 @@ ghost use Rattle.taps_connection.specs.Unread.{count_given};
 ghost use Rattle.taps_exchange.specs.Changes.{Changes};
 ghost use Rattle.taps_exchange.specs.Hearings.{one_unless};
 ghost use Rattle.taps_exchange.specs.Turns as exchange;
-ghost use Rattle.taps_socket.specs.Calls.{Call};
 ghost use Rattle.taps_stack.specs.StackTable.{is_stream};
-ghost use Rattle.taps_loop.specs.Hears.{IsEnd, one_true, soon_by};
-ghost use Rattle.taps_loop.specs.Loops.{Ends};
-ghost use Rattle.taps_loop.specs.Rounds.{AreEnds, AreKept, Stands, IsLast, HasRounded, rest_by, Lags, IfAgain, Moves, until_if};
+ghost use Rattle.taps_loop.specs.Connections.{GoesRound};
+ghost use Rattle.taps_loop.specs.Hears.{one_true};
+ghost use Rattle.taps_loop.specs.Rounds.{Stands, IsLast, rest_by, Lags, IfAgain, Moves, until_if};
 ghost use Rattle.taps_loop.specs.Sends.{HasGone, HasRest, waits, count_left};
 
 use crate::hearing::{In, hear_in_turn};
@@ -52,18 +50,9 @@ pub fn hear_behind<N: Reporting, S: Open, T: Open>(
     requires spare { 1 ≤ (N.net net.old).spare }
     requires deadline { deadline < 2 ^ 63 }
     requires some { (N.net net.old).trace ≢ [] }
-    ensures rounded { (x : Ends) (calls : List Call) (piece : ℕ) →
-        AreEnds x (encoding_of (is_stream from.now.stack) (layers_of ⟦<dyn Framer as Framer>⟧ from.now.chain))
-        from.now.socket (is_stream to.old.stack) (layers_of ⟦<dyn Framer as Framer>⟧ to.old.chain) to.old.socket piece
-        deadline →
-        AreKept x calls (encoding_of (is_stream from.now.stack) (layers_of ⟦<dyn Framer as Framer>⟧ from.now.chain))
-        (is_stream to.old.stack) (layers_of ⟦<dyn Framer as Framer>⟧ to.old.chain) piece from.now.sender
-        (N.net net.old).told to.old.receiver.ended (unread_of to.old.receiver.source) heard.old.items →
-        HasGone x calls (waits from.now.sender) →
-        HasRounded N.Becomes x calls
-        (encoding_of (is_stream from.now.stack) (layers_of ⟦<dyn Framer as Framer>⟧ from.now.chain))
-        (is_stream to.old.stack) (layers_of ⟦<dyn Framer as Framer>⟧ to.old.chain) piece net.old net.new result
-        from.now.sender (N.net net.new).told to.new.receiver.ended (unread_of to.new.receiver.source) heard.new.items }
+    ensures rounded { GoesRound ⟦<dyn Framer as Framer>⟧ N.Becomes from.now to.old deadline net.old net.new
+        (N.net net.old).told heard.old.items (λ x calls. HasGone x calls (waits from.now.sender)) result
+        from.now.sender (N.net net.new).told to.new.receiver heard.new.items }
     ensures nearer { IfAgain result (λ enough.
         rest_by deadline (N.net net.new).told to.new.receiver.ended (unread_of to.new.receiver.source) ≤
         rest_by deadline (N.net net.old).told to.old.receiver.ended (unread_of to.old.receiver.source)) }
@@ -127,18 +116,9 @@ pub fn hear_last<N: Reporting, S: Open, T: Open>(
     requires spare { 1 ≤ (N.net net.old).spare }
     requires deadline { deadline < 2 ^ 63 }
     requires some { (N.net net.old).trace ≢ [] }
-    ensures rounded { (x : Ends) (calls : List Call) (piece : ℕ) →
-        AreEnds x (encoding_of (is_stream from.now.stack) (layers_of ⟦<dyn Framer as Framer>⟧ from.now.chain))
-        from.now.socket (is_stream to.old.stack) (layers_of ⟦<dyn Framer as Framer>⟧ to.old.chain) to.old.socket piece
-        deadline →
-        AreKept x calls (encoding_of (is_stream from.now.stack) (layers_of ⟦<dyn Framer as Framer>⟧ from.now.chain))
-        (is_stream to.old.stack) (layers_of ⟦<dyn Framer as Framer>⟧ to.old.chain) piece from.now.sender
-        (N.net net.old).told to.old.receiver.ended (unread_of to.old.receiver.source) heard.old.items →
-        IsLast x calls from.now.sender heard.old.items enough →
-        HasRounded N.Becomes x calls
-        (encoding_of (is_stream from.now.stack) (layers_of ⟦<dyn Framer as Framer>⟧ from.now.chain))
-        (is_stream to.old.stack) (layers_of ⟦<dyn Framer as Framer>⟧ to.old.chain) piece net.old net.new result
-        from.now.sender (N.net net.new).told to.new.receiver.ended (unread_of to.new.receiver.source) heard.new.items }
+    ensures rounded { GoesRound ⟦<dyn Framer as Framer>⟧ N.Becomes from.now to.old deadline net.old net.new
+        (N.net net.old).told heard.old.items (λ x calls. IsLast x calls from.now.sender heard.old.items enough) result
+        from.now.sender (N.net net.new).told to.new.receiver heard.new.items }
     ensures less { IfAgain result (λ again.
         rest_by deadline (N.net net.new).told to.new.receiver.ended (unread_of to.new.receiver.source) <
         rest_by deadline (N.net net.old).told to.old.receiver.ended (unread_of to.old.receiver.source)) }
@@ -219,18 +199,9 @@ pub fn go_round<N: Reporting, S: Open, T: Open>(
     requires spare { 2 ≤ (N.net net.old).spare }
     requires deadline { deadline < 2 ^ 63 }
     requires some { (N.net net.old).trace ≢ [] }
-    ensures rounded { (x : Ends) (calls : List Call) (piece : ℕ) →
-        AreEnds x (encoding_of (is_stream from.old.stack) (layers_of ⟦<dyn Framer as Framer>⟧ from.old.chain))
-        from.old.socket (is_stream to.old.stack) (layers_of ⟦<dyn Framer as Framer>⟧ to.old.chain) to.old.socket piece
-        deadline →
-        AreKept x calls (encoding_of (is_stream from.old.stack) (layers_of ⟦<dyn Framer as Framer>⟧ from.old.chain))
-        (is_stream to.old.stack) (layers_of ⟦<dyn Framer as Framer>⟧ to.old.chain) piece from.old.sender
-        (N.net net.old).told to.old.receiver.ended (unread_of to.old.receiver.source) heard.old.items →
-        Stands x calls from.old.sender heard.old.items enough →
-        HasRounded N.Becomes x calls
-        (encoding_of (is_stream from.old.stack) (layers_of ⟦<dyn Framer as Framer>⟧ from.old.chain))
-        (is_stream to.old.stack) (layers_of ⟦<dyn Framer as Framer>⟧ to.old.chain) piece net.old net.new result
-        from.new.sender (N.net net.new).told to.new.receiver.ended (unread_of to.new.receiver.source) heard.new.items }
+    ensures rounded { GoesRound ⟦<dyn Framer as Framer>⟧ N.Becomes from.old to.old deadline net.old net.new
+        (N.net net.old).told heard.old.items (λ x calls. Stands x calls from.old.sender heard.old.items enough) result
+        from.new.sender (N.net net.new).told to.new.receiver heard.new.items }
     ensures nearer { IfAgain result (λ again. count_left from.new.sender +
         rest_by deadline (N.net net.new).told to.new.receiver.ended (unread_of to.new.receiver.source) <
         count_left from.old.sender +

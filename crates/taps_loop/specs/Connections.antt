@@ -1,0 +1,70 @@
+-- The ends of two connections, of which the one sends and the other hears.
+use Rattle.std.specs.Prelude.{ℕ, List, [], Result}
+use Rattle.taps_base.specs.declared.no_memory.NoMemory.{NoMemory}
+use Rattle.taps_framer.specs.declared.framer.Framer as framer
+use Rattle.taps_chain.specs.Layers.{layers_of}
+use Rattle.taps_stack.specs.StackTable.{is_stream}
+use Rattle.taps_socket.specs.Calls.{Call}
+use Rattle.taps_connection.specs.declared.connection.Connection.{Connection}
+use Rattle.taps_connection.specs.declared.receiver.Receiver.{Receiver}
+use Rattle.taps_connection.specs.declared.sender.Sender.{Sender}
+use Rattle.taps_connection.specs.Encodings.{encoding_of}
+use Rattle.taps_connection.specs.Sources.{unread_of}
+use Rattle.taps_loop.specs.declared.hearing.In.{In}
+use Rattle.taps_loop.specs.declared.rounds.Round.{Round}
+use Rattle.taps_loop.specs.Loops.{Ends}
+use Rattle.taps_loop.specs.Hears.{IsEnd, IsKept, IsInIf, HasAsked}
+use Rattle.taps_loop.specs.Rounds.{AreEnds, AreKept, HasRounded}
+
+-- the accepted end is this connection's
+abbrev pub IsEndOf : {X : Type 0} {F : X → Type 0} {T : Type 0} → ((x : X) → framer.Ghosts (F x)) → Ends →
+    Connection T X F → ℕ → ℕ → Type 0
+IsEndOf boxed x to piece deadline =
+    IsEnd x (is_stream to.stack) (layers_of boxed to.chain) to.socket piece deadline
+
+-- what is kept of its receiving stands for the calls
+abbrev pub IsKeptOf : {X : Type 0} {F : X → Type 0} {T : Type 0} → ((x : X) → framer.Ghosts (F x)) → Ends →
+    List Call → Connection T X F → ℕ → List (List ℕ) → Type 0
+IsKeptOf boxed x calls to piece ms =
+    IsKept x calls (is_stream to.stack) (layers_of boxed to.chain) piece to.receiver.ended
+    (unread_of to.receiver.source) ms
+
+-- it had its turn, behind which this is kept of its receiving, and these messages were heard
+abbrev pub HasHeard : {N : Type 0} {X : Type 0} {F : X → Type 0} {T : Type 0} → ((x : X) → framer.Ghosts (F x)) →
+    (N → List Call → N → Type 0) → Ends → List Call → Connection T X F → N → N → ℕ → ℕ → ℕ → Result In NoMemory →
+    Receiver X F → List (List ℕ) → Type 0
+HasHeard boxed Becomes x calls to before after piece more needs result r ms = HasAsked Becomes x calls before after
+    (λ later. IsInIf x calls later (is_stream to.stack) (layers_of boxed to.chain) piece more needs result r.ended
+    (unread_of r.source) ms)
+
+-- both ends are these connections'
+abbrev pub AreEndsOf : {X : Type 0} {F : X → Type 0} {S T : Type 0} → ((x : X) → framer.Ghosts (F x)) → Ends →
+    Connection S X F → Connection T X F → ℕ → ℕ → Type 0
+AreEndsOf boxed x from to piece deadline =
+    AreEnds x (encoding_of (is_stream from.stack) (layers_of boxed from.chain)) from.socket (is_stream to.stack)
+    (layers_of boxed to.chain) to.socket piece deadline
+
+-- what is kept of both stands for the calls
+abbrev pub AreKeptOf : {X : Type 0} {F : X → Type 0} {S T : Type 0} → ((x : X) → framer.Ghosts (F x)) → Ends →
+    List Call → Connection S X F → Connection T X F → ℕ → ℕ → List (List ℕ) → Type 0
+AreKeptOf boxed x calls from to piece told ms =
+    AreKept x calls (encoding_of (is_stream from.stack) (layers_of boxed from.chain)) (is_stream to.stack)
+    (layers_of boxed to.chain) piece from.sender told to.receiver.ended (unread_of to.receiver.source) ms
+
+-- Where a fact holds of the calls, a round goes on behind them: then this is kept of the sending and of the receiving,
+-- up to the last reported time, and these messages were heard.
+abbrev pub GoesRound : {N : Type 0} {X : Type 0} {F : X → Type 0} {S T : Type 0} → ((x : X) → framer.Ghosts (F x)) →
+    (N → List Call → N → Type 0) → Connection S X F → Connection T X F → ℕ → N → N → ℕ → List (List ℕ) →
+    (Ends → List Call → Type 0) → Result Round NoMemory → Sender → ℕ → Receiver X F → List (List ℕ) → Type 0
+GoesRound boxed Becomes from to deadline before after told ms P result s told' r ms' =
+    (x : Ends) (calls : List Call) (piece : ℕ) → AreEndsOf boxed x from to piece deadline →
+    AreKeptOf boxed x calls from to piece told ms → P x calls →
+    HasRounded Becomes x calls (encoding_of (is_stream from.stack) (layers_of boxed from.chain)) (is_stream to.stack)
+    (layers_of boxed to.chain) piece before after result s told' r.ended (unread_of r.source) ms'
+
+-- where a fact holds of the ends before the first call, so does another
+abbrev pub FromFirst : {X : Type 0} {F : X → Type 0} {S T : Type 0} → ((x : X) → framer.Ghosts (F x)) →
+    Connection S X F → Connection T X F → ℕ → ℕ → List (List ℕ) → (Ends → Type 0) → (Ends → Type 0) → Type 0
+FromFirst boxed from to deadline told ms P Q =
+    (x : Ends) (piece : ℕ) → AreEndsOf boxed x from to piece deadline → AreKeptOf boxed x [] from to piece told ms →
+    P x → Q x
