@@ -1,20 +1,33 @@
 -- The ends of two connections, of which the one sends and the other hears.
-use Rattle.std.specs.Prelude.{ℕ, List, [], Result}
+use Rattle.std.specs.Prelude.{◌≢◌, ◌≤◌, ◌<◌, ◌^◌, ℕ, List, [], Result}
 use Rattle.taps_base.specs.declared.no_memory.NoMemory.{NoMemory}
 use Rattle.taps_framer.specs.declared.framer.Framer as framer
 use Rattle.taps_chain.specs.Layers.{layers_of}
 use Rattle.taps_stack.specs.StackTable.{is_stream}
 use Rattle.taps_socket.specs.Calls.{Call}
+use Rattle.taps_socket.specs.Net.{Net}
 use Rattle.taps_connection.specs.declared.connection.Connection.{Connection}
 use Rattle.taps_connection.specs.declared.receiver.Receiver.{Receiver}
 use Rattle.taps_connection.specs.declared.sender.Sender.{Sender}
+use Rattle.taps_connection.specs.Conditions.{IsHeld}
 use Rattle.taps_connection.specs.Encodings.{encoding_of}
+use Rattle.taps_connection.specs.Inboxes.{IsSoundReceiver}
 use Rattle.taps_connection.specs.Sources.{unread_of}
 use Rattle.taps_loop.specs.declared.hearing.In.{In}
 use Rattle.taps_loop.specs.declared.rounds.Round.{Round}
 use Rattle.taps_loop.specs.Loops.{Ends}
 use Rattle.taps_loop.specs.Hears.{IsEnd, IsKept, IsInIf, HasAsked}
 use Rattle.taps_loop.specs.Rounds.{AreEnds, AreKept, HasRounded}
+
+-- the accepted end may ask once, up to a deadline: what is kept of its receiving is sound, its socket is held, and one
+-- item more has room
+pub record MayAsk {X : Type 0} {F : X → Type 0} {T : Type 0} (boxed : (x : X) → framer.Ghosts (F x))
+    (to : Connection T X F) (net : Net) (deadline : ℕ) : Type 0 where
+  pub sound : IsSoundReceiver boxed to.stack (layers_of boxed to.chain) to.receiver
+  pub held : IsHeld net.trace to.socket (is_stream to.stack) to.sender.shut to.receiver.ended
+  pub spare : 1 ≤ net.spare
+  pub bounded : deadline < 2 ^ 63
+  pub some : net.trace ≢ []
 
 -- the accepted end is this connection's
 abbrev pub IsEndOf : {X : Type 0} {F : X → Type 0} {T : Type 0} → ((x : X) → framer.Ghosts (F x)) → Ends →

@@ -1,5 +1,5 @@
 // The turn of the end that hears.
-ghost use Rattle.std.specs.Prelude.{◌≡◌, ◌≢◌, ◌≤◌, ◌<◌, ◌^◌, ◌+◌, ℕ, [], List, false, length};
+ghost use Rattle.std.specs.Prelude.{◌≡◌, ◌≤◌, ◌<◌, ◌+◌, ℕ, List, false, length};
 ghost use Rattle.taps_chain.specs.ChainLaws.{AreFramers};
 ghost use Rattle.taps_chain.specs.Layers.{layers_of};
 ghost use Rattle.taps_connection.specs.Conditions.{IsHeld};
@@ -13,7 +13,7 @@ ghost use Rattle.taps_exchange.specs.Members.{calls_on, pieces_read};
 ghost use Rattle.taps_exchange.specs.Turns.{Turn};
 ghost use Rattle.taps_socket.specs.Calls.{Call};
 ghost use Rattle.taps_stack.specs.StackTable.{is_stream};
-ghost use Rattle.taps_loop.specs.Connections.{IsEndOf, IsKeptOf, HasHeard};
+ghost use Rattle.taps_loop.specs.Connections.{MayAsk, IsEndOf, IsKeptOf, HasHeard};
 ghost use Rattle.taps_loop.specs.Loops.{Ends};
 ghost use Rattle.taps_loop.specs.Looks.{AreAll};
 ghost use Rattle.taps_loop.specs.Hears.{IsToHear, HasAsked, IsReadIf, IsInSooner, IfInGoesOn, IsSooner, IfCame, asked_by, timed_by, in_found, soon_by, one_true};
@@ -52,13 +52,7 @@ pub fn ask_in_turn<N: Reporting, S: Open>(
 ) -> Result<Asked, NoMemory>
     requires wanting { IsWanting (unread_of to.old.receiver.source) }
     requires goes_on { to.old.receiver.ended ≡ false }
-    requires sound { IsSoundReceiver ⟦<dyn Framer as Framer>⟧ to.old.stack
-        (layers_of ⟦<dyn Framer as Framer>⟧ to.old.chain) to.old.receiver }
-    requires held { IsHeld (N.net net.old).trace to.old.socket (is_stream to.old.stack) to.old.sender.shut
-        to.old.receiver.ended }
-    requires spare { 1 ≤ (N.net net.old).spare }
-    requires deadline { deadline < 2 ^ 63 }
-    requires some { (N.net net.old).trace ≢ [] }
+    requires asks { MayAsk ⟦<dyn Framer as Framer>⟧ to.old (N.net net.old) deadline }
     ensures read { (x : Ends) (calls : List Call) (others : Turn) (piece more needs : ℕ) (ms : List (List ℕ)) →
         IsEndOf ⟦<dyn Framer as Framer>⟧ x to.old piece deadline →
         IsToHear x calls others more needs (N.net net.old).told →
@@ -133,14 +127,8 @@ pub fn hear_in_turn<N: Reporting, S: Open>(
     heard: &mut Vec<Body>,
 ) -> Result<In, NoMemory>
     requires framers { AreFramers (layers_of ⟦<dyn Framer as Framer>⟧ to.old.chain) }
-    requires sound { IsSoundReceiver ⟦<dyn Framer as Framer>⟧ to.old.stack
-        (layers_of ⟦<dyn Framer as Framer>⟧ to.old.chain) to.old.receiver }
-    requires held { IsHeld (N.net net.old).trace to.old.socket (is_stream to.old.stack) to.old.sender.shut
-        to.old.receiver.ended }
+    requires asks { MayAsk ⟦<dyn Framer as Framer>⟧ to.old (N.net net.old) deadline }
     requires few { needs ≤ 256 }
-    requires spare { 1 ≤ (N.net net.old).spare }
-    requires deadline { deadline < 2 ^ 63 }
-    requires some { (N.net net.old).trace ≢ [] }
     ensures heard { (x : Ends) (calls : List Call) (others : Turn) (piece more : ℕ) →
         IsEndOf ⟦<dyn Framer as Framer>⟧ x to.old piece deadline →
         IsToHear x calls others more needs (N.net net.old).told →
@@ -181,15 +169,9 @@ fn read_on<N: Reporting, S: Open>(
     requires framers { AreFramers (layers_of ⟦<dyn Framer as Framer>⟧ to.old.chain) }
     requires wanting { IsWanting (unread_of to.old.receiver.source) }
     requires goes_on { to.old.receiver.ended ≡ false }
-    requires sound { IsSoundReceiver ⟦<dyn Framer as Framer>⟧ to.old.stack
-        (layers_of ⟦<dyn Framer as Framer>⟧ to.old.chain) to.old.receiver }
-    requires held { IsHeld (N.net net.old).trace to.old.socket (is_stream to.old.stack) to.old.sender.shut
-        to.old.receiver.ended }
+    requires asks { MayAsk ⟦<dyn Framer as Framer>⟧ to.old (N.net net.old) deadline }
     requires few { needs ≤ 256 }
     requires less { count_given (unread_of to.old.receiver.source) < needs }
-    requires spare { 1 ≤ (N.net net.old).spare }
-    requires deadline { deadline < 2 ^ 63 }
-    requires some { (N.net net.old).trace ≢ [] }
     ensures heard { (x : Ends) (calls : List Call) (others : Turn) (piece more : ℕ) →
         IsEndOf ⟦<dyn Framer as Framer>⟧ x to.old piece deadline →
         IsToHear x calls others more needs (N.net net.old).told →

@@ -12,7 +12,7 @@ ghost use Rattle.taps_exchange.specs.Changes.{Changes};
 ghost use Rattle.taps_exchange.specs.Hearings.{one_unless};
 ghost use Rattle.taps_exchange.specs.Turns as exchange;
 ghost use Rattle.taps_stack.specs.StackTable.{is_stream};
-ghost use Rattle.taps_loop.specs.Connections.{GoesRound};
+ghost use Rattle.taps_loop.specs.Connections.{MayAsk, GoesRound};
 ghost use Rattle.taps_loop.specs.Hears.{one_true};
 ghost use Rattle.taps_loop.specs.Rounds.{Stands, IsLast, rest_by, Lags, IfAgain, Moves, until_if};
 ghost use Rattle.taps_loop.specs.Sends.{HasGone, HasRest, waits, count_left};
@@ -43,13 +43,7 @@ pub fn hear_behind<N: Reporting, S: Open, T: Open>(
     requires framers { AreFramers (layers_of ⟦<dyn Framer as Framer>⟧ to.old.chain) }
     requires sends { IsSound (is_stream from.now.stack) (layers_of ⟦<dyn Framer as Framer>⟧ from.now.chain)
         from.now.sender }
-    requires sound { IsSoundReceiver ⟦<dyn Framer as Framer>⟧ to.old.stack
-        (layers_of ⟦<dyn Framer as Framer>⟧ to.old.chain) to.old.receiver }
-    requires held { IsHeld (N.net net.old).trace to.old.socket (is_stream to.old.stack) to.old.sender.shut
-        to.old.receiver.ended }
-    requires spare { 1 ≤ (N.net net.old).spare }
-    requires deadline { deadline < 2 ^ 63 }
-    requires some { (N.net net.old).trace ≢ [] }
+    requires asks { MayAsk ⟦<dyn Framer as Framer>⟧ to.old (N.net net.old) deadline }
     ensures rounded { GoesRound ⟦<dyn Framer as Framer>⟧ N.Becomes from.now to.old deadline net.old net.new
         (N.net net.old).told heard.old.items (λ x calls. HasGone x calls (waits from.now.sender)) result
         from.now.sender (N.net net.new).told to.new.receiver heard.new.items }
@@ -109,13 +103,7 @@ pub fn hear_last<N: Reporting, S: Open, T: Open>(
     requires framers { AreFramers (layers_of ⟦<dyn Framer as Framer>⟧ to.old.chain) }
     requires sends { IsSound (is_stream from.now.stack) (layers_of ⟦<dyn Framer as Framer>⟧ from.now.chain)
         from.now.sender }
-    requires sound { IsSoundReceiver ⟦<dyn Framer as Framer>⟧ to.old.stack
-        (layers_of ⟦<dyn Framer as Framer>⟧ to.old.chain) to.old.receiver }
-    requires held { IsHeld (N.net net.old).trace to.old.socket (is_stream to.old.stack) to.old.sender.shut
-        to.old.receiver.ended }
-    requires spare { 1 ≤ (N.net net.old).spare }
-    requires deadline { deadline < 2 ^ 63 }
-    requires some { (N.net net.old).trace ≢ [] }
+    requires asks { MayAsk ⟦<dyn Framer as Framer>⟧ to.old (N.net net.old) deadline }
     ensures rounded { GoesRound ⟦<dyn Framer as Framer>⟧ N.Becomes from.now to.old deadline net.old net.new
         (N.net net.old).told heard.old.items (λ x calls. IsLast x calls from.now.sender heard.old.items enough) result
         from.now.sender (N.net net.new).told to.new.receiver heard.new.items }

@@ -12,7 +12,12 @@ use Rattle.taps_loop.specs.Loops.{Ends}
 use Rattle.taps_loop.specs.Looks.{AreAll, IsFound}
 use Rattle.taps_loop.specs.Hears.{one_true, IsEnd, IsKept, IsToHear, HasAsked, IsIn, IsInIf}
 use Rattle.taps_loop.proofs.Findings.{enough_in, over_in}
+use Rattle.taps_loop.proofs.MayAsking.{asks_looked}
 use Rattle.taps_loop.proofs.hearing.hear_in_turn.Goals as goal
+
+pub read_on-requires-clause-asks : goal.read_on-requires-clause-asks
+read_on-requires-clause-asks g c =
+    asks_looked (λ vtable. (g.dyn-1.0.entry vtable).1) c.args.to.now c.look_for.new.connection (g.N.Sockets.net c.args.net.now) c.args.deadline c.in-Ok-Lacks.ensures.kept c.in-Ok-Lacks.ensures.ended c.in-Ok-Lacks.ensures.sound c.requires.asks
 
 pub returns-in-Ok-Enough-clause-heard : goal.returns-in-Ok-Enough-clause-heard
 returns-in-Ok-Enough-clause-heard g c =

@@ -1,4 +1,4 @@
-use Rattle.std.proofs.Common.{◌≡◌, ◌+◌, ◌++◌, ℕ, List, sym, ap, subst, ◌∙◌}
+use Rattle.std.proofs.Common.{◌≡◌, ◌+◌, ◌++◌, ℕ, List, sym, ap, subst, ◌∙◌, arith}
 use Rattle.std.specs.Prelude.{Ok, Err, take}
 use Rattle.taps_chain.specs.Layers.{layers_of}
 use Rattle.taps_stack.specs.StackTable.{is_stream}
@@ -12,16 +12,19 @@ use Rattle.taps_loop.specs.Loops.{Ends}
 use Rattle.taps_loop.specs.Sends.{HasGone, waits, IsToSend, HasTurned, IsFurther, IfOutGoesOn}
 use Rattle.taps_loop.specs.Rounds.{until_if, AreEnds, AreKept, IsLast, HasRounded}
 use Rattle.taps_loop.proofs.GoingRound.{to_send, sent_kept, last_of, again_of, over_of, then_rounded, over_rounded, again_rounded, memory_rounded}
+use Rattle.taps_loop.proofs.MayAsking.{asks_apart}
 use Rattle.taps_loop.proofs.Moving.{held_apart, moves_from, moves_to, moves_on, if_again}
 use Rattle.taps_loop.proofs.rounds.go_round.Goals as goal
 
-pub hear_behind-requires-clause-held : goal.hear_behind-requires-clause-held
-hear_behind-requires-clause-held g c =
-    held_apart c.args.to.now.socket c.args.from.now.socket 1 (g.N.Sockets.net c.args.net.now) (g.N.Sockets.net c.send_in_turn.new.net) (is_stream c.args.to.now.stack) c.args.to.now.sender.shut c.args.to.now.receiver.ended c.requires.apart c.in-Ok-Gone.ensures.changes c.requires.held
+pub hear_behind-requires-clause-asks : goal.hear_behind-requires-clause-asks
+hear_behind-requires-clause-asks g c =
+    asks_apart (λ vtable. (g.dyn-1.0.entry vtable).1) c.args.to.now c.args.from.now.socket (g.N.Sockets.net c.args.net.now) (g.N.Sockets.net c.send_in_turn.new.net) c.args.deadline c.requires.apart c.requires.spare c.in-Ok-Gone.ensures.changes
+    (record { sound = c.requires.sound; held = c.requires.held; spare = (let two = c.requires.spare in omega (arith, two)); bounded = c.requires.deadline; some = c.requires.some })
 
-pub hear_last-requires-clause-held : goal.hear_last-requires-clause-held
-hear_last-requires-clause-held g c =
-    held_apart c.args.to.now.socket c.args.from.now.socket 1 (g.N.Sockets.net c.args.net.now) (g.N.Sockets.net c.send_in_turn.new.net) (is_stream c.args.to.now.stack) c.args.to.now.sender.shut c.args.to.now.receiver.ended c.requires.apart c.in-Ok-Nothing.ensures.changes c.requires.held
+pub hear_last-requires-clause-asks : goal.hear_last-requires-clause-asks
+hear_last-requires-clause-asks g c =
+    asks_apart (λ vtable. (g.dyn-1.0.entry vtable).1) c.args.to.now c.args.from.now.socket (g.N.Sockets.net c.args.net.now) (g.N.Sockets.net c.send_in_turn.new.net) c.args.deadline c.requires.apart c.requires.spare c.in-Ok-Nothing.ensures.changes
+    (record { sound = c.requires.sound; held = c.requires.held; spare = (let two = c.requires.spare in omega (arith, two)); bounded = c.requires.deadline; some = c.requires.some })
 
 pub returns-in-Ok-Gone-clause-rounded : goal.returns-in-Ok-Gone-clause-rounded
 returns-in-Ok-Gone-clause-rounded g c =
