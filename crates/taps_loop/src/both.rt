@@ -1,5 +1,5 @@
 // The exchange of both ends, behind which both sockets are closed.
-ghost use Rattle.std.specs.Prelude.{◌≡◌, ◌≢◌, ◌≤◌, ◌<◌, ◌^◌, ◌-◌, ◌∷◌, ℕ, [], None, true, false, length};
+ghost use Rattle.std.specs.Prelude.{◌≡◌, ◌≢◌, ◌≤◌, ◌<◌, ◌^◌, ◌∷◌, ℕ, [], None, true, false, length};
 ghost use Rattle.taps_chain.specs.ChainLaws.{AreFramers};
 ghost use Rattle.taps_chain.specs.Layers.{layers_of};
 ghost use Rattle.taps_connection.specs.Conditions.{IsHeld};
@@ -14,7 +14,7 @@ ghost use Rattle.taps_socket.specs.LiveSockets.{live_sockets};
 ghost use Rattle.taps_socket.specs.RaceSockets.{has};
 ghost use Rattle.taps_stack.specs.StackTable.{is_stream};
 ghost use Rattle.taps_loop.specs.Connections.{FromFirst};
-ghost use Rattle.taps_loop.specs.Looped.{AreEndsOver, HasClosedBoth, ClosesTwo, ClosesBoth};
+ghost use Rattle.taps_loop.specs.Looped.{AreEndsOver, MayExchange, HasClosedBoth, HasClosedOver, ClosesTwo, ClosesBoth};
 ghost use Rattle.taps_loop.specs.Loops.{Ends};
 
 use crate::reporting::Reporting;
@@ -175,23 +175,14 @@ fn exchange_with<N: Reporting>(
     deadline: u64,
     net: &mut N,
 ) -> Result<Exchanged, NoMemory>
-    requires piece_some { 1 ≤ piece }
-    requires piece_few { piece ≤ 65536 }
+    requires ready { MayExchange from.socket from.stack to accepting at piece deadline (N.net net.old) }
     requires framers { AreFramers (layers_of ⟦<dyn Framer as Framer>⟧ from.chain) }
     requires same { layers_of ⟦<dyn Framer as Framer>⟧ chain ≡ layers_of ⟦<dyn Framer as Framer>⟧ from.chain }
     requires new { IsNewSender at from.sender }
     requires sends { IsSound (is_stream from.stack) (layers_of ⟦<dyn Framer as Framer>⟧ from.chain) from.sender }
     requires goes_on { from.receiver.ended ≡ false }
-    requires holds { IsHeld (N.net net.old).trace from.socket (is_stream from.stack) false false }
-    requires held { IsHeld (N.net net.old).trace to (is_stream accepting) false false }
-    requires apart { to ≢ from.socket }
-    requires told { (N.net net.old).told ≡ at }
-    requires spare { 6 ≤ (N.net net.old).spare }
-    requires deadline { deadline < 2 ^ 63 }
-    requires some { (N.net net.old).trace ≢ [] }
-    ensures closed { (x : Ends) → AreEndsOver x from.entry.socket from.entry.stack to accepting
-        (layers_of ⟦<dyn Framer as Framer>⟧ from.entry.chain) messages.items at piece deadline →
-        HasClosedBoth N.Becomes x from.entry.socket to net.old net.new result }
+    ensures closed { HasClosedOver N.Becomes from.entry.socket from.entry.stack to accepting
+        (layers_of ⟦<dyn Framer as Framer>⟧ from.entry.chain) messages.items at piece deadline net.old net.new result }
     ensures closes { ClosesBoth from.entry.socket to (N.net net.old) (N.net net.new) }
 {
     match Connection::new(alloc, to, accepting, chain, props, piece, at) {
@@ -219,20 +210,11 @@ fn exchange_over<N: Reporting>(
     deadline: u64,
     net: &mut N,
 ) -> Result<Exchanged, NoMemory>
-    requires piece_some { 1 ≤ piece }
-    requires piece_few { piece ≤ 65536 }
+    requires ready { MayExchange from stack to accepting at piece deadline (N.net net.old) }
     requires framers { AreFramers (layers_of ⟦<dyn Framer as Framer>⟧ chain) }
     requires same { layers_of ⟦<dyn Framer as Framer>⟧ copy ≡ layers_of ⟦<dyn Framer as Framer>⟧ chain }
-    requires holds { IsHeld (N.net net.old).trace from (is_stream stack) false false }
-    requires held { IsHeld (N.net net.old).trace to (is_stream accepting) false false }
-    requires apart { to ≢ from }
-    requires told { (N.net net.old).told ≡ at }
-    requires spare { 6 ≤ (N.net net.old).spare }
-    requires deadline { deadline < 2 ^ 63 }
-    requires some { (N.net net.old).trace ≢ [] }
-    ensures closed { (x : Ends) → AreEndsOver x from stack to accepting
-        (layers_of ⟦<dyn Framer as Framer>⟧ chain.entry) messages.items at piece deadline →
-        HasClosedBoth N.Becomes x from to net.old net.new result }
+    ensures closed { HasClosedOver N.Becomes from stack to accepting
+        (layers_of ⟦<dyn Framer as Framer>⟧ chain.entry) messages.items at piece deadline net.old net.new result }
     ensures closes { ClosesBoth from to (N.net net.old) (N.net net.new) }
 {
     match Connection::new(alloc, from, stack, chain, props, piece, at) {
@@ -261,18 +243,9 @@ pub fn exchange_both<N: Reporting>(
     deadline: u64,
     net: &mut N,
 ) -> Result<Exchanged, NoMemory>
-    requires piece_some { 1 ≤ piece }
-    requires piece_few { piece ≤ 65536 }
-    requires holds { IsHeld (N.net net.old).trace from (is_stream stack) false false }
-    requires held { IsHeld (N.net net.old).trace to (is_stream accepting) false false }
-    requires apart { to ≢ from }
-    requires told { (N.net net.old).told ≡ at }
-    requires spare { 6 ≤ (N.net net.old).spare }
-    requires deadline { deadline < 2 ^ 63 }
-    requires some { (N.net net.old).trace ≢ [] }
-    ensures closed { (x : Ends) → AreEndsOver x from stack to accepting
-        (layers_of ⟦<dyn Framer as Framer>⟧ chain.entry) messages.items at piece deadline →
-        HasClosedBoth N.Becomes x from to net.old net.new result }
+    requires ready { MayExchange from stack to accepting at piece deadline (N.net net.old) }
+    ensures closed { HasClosedOver N.Becomes from stack to accepting
+        (layers_of ⟦<dyn Framer as Framer>⟧ chain.entry) messages.items at piece deadline net.old net.new result }
     ensures closes { ClosesBoth from to (N.net net.old) (N.net net.new) }
 {
     chain.vouch();
