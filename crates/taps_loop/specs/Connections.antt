@@ -1,5 +1,5 @@
 -- The ends of two connections, of which the one sends and the other hears.
-use Rattle.std.specs.Prelude.{◌≢◌, ◌≤◌, ◌<◌, ◌^◌, ℕ, List, [], Result}
+use Rattle.std.specs.Prelude.{◌≡◌, ◌≢◌, ◌≤◌, ◌<◌, ◌^◌, ◌+◌, ℕ, List, [], Result}
 use Rattle.taps_base.specs.declared.no_memory.NoMemory.{NoMemory}
 use Rattle.taps_framer.specs.declared.framer.Framer as framer
 use Rattle.taps_chain.specs.Layers.{layers_of}
@@ -13,6 +13,8 @@ use Rattle.taps_connection.specs.Conditions.{IsHeld}
 use Rattle.taps_connection.specs.Encodings.{encoding_of}
 use Rattle.taps_connection.specs.Inboxes.{IsSoundReceiver}
 use Rattle.taps_connection.specs.Sources.{unread_of}
+use Rattle.taps_exchange.specs.Changes.{Changes}
+use Rattle.taps_exchange.specs.Hearings.{one_unless}
 use Rattle.taps_loop.specs.declared.hearing.In.{In}
 use Rattle.taps_loop.specs.declared.rounds.Round.{Round}
 use Rattle.taps_loop.specs.Loops.{Ends}
@@ -28,6 +30,17 @@ pub record MayAsk {X : Type 0} {F : X → Type 0} {T : Type 0} (boxed : (x : X) 
   pub spare : 1 ≤ net.spare
   pub bounded : deadline < 2 ^ 63
   pub some : net.trace ≢ []
+
+-- It asked at most once. Where the exchange goes on, what it used up is at most the item of the end of its stream, and
+-- its socket is held.
+pub record HasAskedOnce {X : Type 0} {F : X → Type 0} {T : Type 0} (boxed : (x : X) → framer.Ghosts (F x))
+    (to now : Connection T X F) (before after : Net) (IfGoesOn : Type 0 → Type 0) : Type 0 where
+  pub changes : Changes to.socket 1 before after
+  pub spare : IfGoesOn (before.spare + one_unless now.receiver.ended ≤ after.spare + one_unless to.receiver.ended)
+  pub sound : IsSoundReceiver boxed to.stack (layers_of boxed to.chain) now.receiver
+  pub held : IfGoesOn (IsHeld after.trace to.socket (is_stream to.stack) to.sender.shut now.receiver.ended)
+  pub kept : now ≡ record to { receiver = now.receiver; sender = now.sender }
+  pub sender : now.sender ≡ record to.sender { moment = now.sender.moment }
 
 -- the accepted end is this connection's
 abbrev pub IsEndOf : {X : Type 0} {F : X → Type 0} {T : Type 0} → ((x : X) → framer.Ghosts (F x)) → Ends →

@@ -2,18 +2,15 @@
 ghost use Rattle.std.specs.Prelude.{◌≡◌, ◌≤◌, ◌<◌, ◌+◌, ℕ, List, false, length};
 ghost use Rattle.taps_chain.specs.ChainLaws.{AreFramers};
 ghost use Rattle.taps_chain.specs.Layers.{layers_of};
-ghost use Rattle.taps_connection.specs.Conditions.{IsHeld};
-ghost use Rattle.taps_connection.specs.Inboxes.{IsSoundReceiver};
 ghost use Rattle.taps_connection.specs.Sources.{unread_of};
 ghost use Rattle.taps_connection.specs.Unread.{count_given, IsWanting};
-ghost use Rattle.taps_exchange.specs.Changes.{Changes};
 ghost use Rattle.taps_exchange.specs.Decodings.{decoding_of};
-ghost use Rattle.taps_exchange.specs.Hearings.{IsLacking, one_unless};
+ghost use Rattle.taps_exchange.specs.Hearings.{IsLacking};
 ghost use Rattle.taps_exchange.specs.Members.{calls_on, pieces_read};
 ghost use Rattle.taps_exchange.specs.Turns.{Turn};
 ghost use Rattle.taps_socket.specs.Calls.{Call};
 ghost use Rattle.taps_stack.specs.StackTable.{is_stream};
-ghost use Rattle.taps_loop.specs.Connections.{MayAsk, IsEndOf, IsKeptOf, HasHeard};
+ghost use Rattle.taps_loop.specs.Connections.{MayAsk, HasAskedOnce, IsEndOf, IsKeptOf, HasHeard};
 ghost use Rattle.taps_loop.specs.Loops.{Ends};
 ghost use Rattle.taps_loop.specs.Looks.{AreAll};
 ghost use Rattle.taps_loop.specs.Hears.{IsToHear, HasAsked, IsReadIf, IsInSooner, IfInGoesOn, IsSooner, IfCame, asked_by, timed_by, in_found, soon_by, one_true};
@@ -71,15 +68,8 @@ pub fn ask_in_turn<N: Reporting, S: Open>(
         (unread_of to.new.receiver.source)) }
     ensures still { result ≡ Ok Asked.Nothing →
         count_given (unread_of to.new.receiver.source) ≡ count_given (unread_of to.old.receiver.source) }
-    ensures changes { Changes to.old.socket 1 (N.net net.old) (N.net net.new) }
-    ensures spare { IfCame result ((N.net net.old).spare + one_unless to.new.receiver.ended ≤
-        (N.net net.new).spare + one_unless to.old.receiver.ended) }
-    ensures sound { IsSoundReceiver ⟦<dyn Framer as Framer>⟧ to.old.stack
-        (layers_of ⟦<dyn Framer as Framer>⟧ to.old.chain) to.new.receiver }
-    ensures held { IfCame result (IsHeld (N.net net.new).trace to.old.socket (is_stream to.old.stack)
-        to.old.sender.shut to.new.receiver.ended) }
-    ensures kept { to.new ≡ record to.old { receiver = to.new.receiver; sender = to.new.sender } }
-    ensures sender { to.new.sender ≡ record to.old.sender { moment = to.new.sender.moment } }
+    ensures once { HasAskedOnce ⟦<dyn Framer as Framer>⟧ to.old to.new (N.net net.old) (N.net net.new)
+        (IfCame result) }
 {
     let until = soon(net.told(), deadline);
     let pulled = ask_once(to, until, net);
@@ -139,15 +129,8 @@ pub fn hear_in_turn<N: Reporting, S: Open>(
     ensures sooner { IsInSooner needs waits deadline (N.net net.old).told (N.net net.new).told result
         to.old.receiver.ended (unread_of to.old.receiver.source) to.new.receiver.ended
         (unread_of to.new.receiver.source) }
-    ensures changes { Changes to.old.socket 1 (N.net net.old) (N.net net.new) }
-    ensures spare { IfInGoesOn result ((N.net net.old).spare + one_unless to.new.receiver.ended ≤
-        (N.net net.new).spare + one_unless to.old.receiver.ended) }
-    ensures sound { IsSoundReceiver ⟦<dyn Framer as Framer>⟧ to.old.stack
-        (layers_of ⟦<dyn Framer as Framer>⟧ to.old.chain) to.new.receiver }
-    ensures held { IfInGoesOn result (IsHeld (N.net net.new).trace to.old.socket (is_stream to.old.stack)
-        to.old.sender.shut to.new.receiver.ended) }
-    ensures kept { to.new ≡ record to.old { receiver = to.new.receiver; sender = to.new.sender } }
-    ensures sender { to.new.sender ≡ record to.old.sender { moment = to.new.sender.moment } }
+    ensures once { HasAskedOnce ⟦<dyn Framer as Framer>⟧ to.old to.new (N.net net.old) (N.net net.new)
+        (IfInGoesOn result) }
 {
     match look_for(to, needs, heard) {
         Ok(Look::Enough) => Ok(In::Enough),
@@ -188,15 +171,8 @@ fn read_on<N: Reporting, S: Open>(
     ensures sooner { IsInSooner needs waits deadline (N.net net.old).told (N.net net.new).told result
         to.old.receiver.ended (unread_of to.old.receiver.source) to.new.receiver.ended
         (unread_of to.new.receiver.source) }
-    ensures changes { Changes to.old.socket 1 (N.net net.old) (N.net net.new) }
-    ensures spare { IfInGoesOn result ((N.net net.old).spare + one_unless to.new.receiver.ended ≤
-        (N.net net.new).spare + one_unless to.old.receiver.ended) }
-    ensures sound { IsSoundReceiver ⟦<dyn Framer as Framer>⟧ to.old.stack
-        (layers_of ⟦<dyn Framer as Framer>⟧ to.old.chain) to.new.receiver }
-    ensures held { IfInGoesOn result (IsHeld (N.net net.new).trace to.old.socket (is_stream to.old.stack)
-        to.old.sender.shut to.new.receiver.ended) }
-    ensures kept { to.new ≡ record to.old { receiver = to.new.receiver; sender = to.new.sender } }
-    ensures sender { to.new.sender ≡ record to.old.sender { moment = to.new.sender.moment } }
+    ensures once { HasAskedOnce ⟦<dyn Framer as Framer>⟧ to.old to.new (N.net net.old) (N.net net.new)
+        (IfInGoesOn result) }
 {
     match ask_in_turn(to, waits, deadline, net) {
         Ok(Asked::Came) => match look_for(to, needs, heard) {

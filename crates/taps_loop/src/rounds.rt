@@ -8,11 +8,10 @@ ghost use Rattle.taps_connection.specs.Senders.{rest_of};
 ghost use Rattle.taps_connection.specs.Sound.{IsSound};
 ghost use Rattle.taps_connection.specs.Sources.{unread_of};
 ghost use Rattle.taps_connection.specs.Unread.{count_given};
-ghost use Rattle.taps_exchange.specs.Changes.{Changes};
 ghost use Rattle.taps_exchange.specs.Hearings.{one_unless};
 ghost use Rattle.taps_exchange.specs.Turns as exchange;
 ghost use Rattle.taps_stack.specs.StackTable.{is_stream};
-ghost use Rattle.taps_loop.specs.Connections.{MayAsk, GoesRound};
+ghost use Rattle.taps_loop.specs.Connections.{MayAsk, HasAskedOnce, GoesRound};
 ghost use Rattle.taps_loop.specs.Hears.{one_true};
 ghost use Rattle.taps_loop.specs.Rounds.{Stands, IsLast, rest_by, Lags, IfAgain, Moves, until_if};
 ghost use Rattle.taps_loop.specs.Sends.{HasGone, HasRest, waits, count_left};
@@ -56,15 +55,8 @@ pub fn hear_behind<N: Reporting, S: Open, T: Open>(
         rest_by deadline (N.net net.old).told to.old.receiver.ended (unread_of to.old.receiver.source)) }
     ensures lags { IfAgain result (λ enough. enough ≡ false →
         count_given (unread_of to.new.receiver.source) < from.now.sender.sent + waits from.now.sender) }
-    ensures changes { Changes to.old.socket 1 (N.net net.old) (N.net net.new) }
-    ensures spare { IfAgain result (λ enough. (N.net net.old).spare + one_unless to.new.receiver.ended ≤
-        (N.net net.new).spare + one_unless to.old.receiver.ended) }
-    ensures sound { IsSoundReceiver ⟦<dyn Framer as Framer>⟧ to.old.stack
-        (layers_of ⟦<dyn Framer as Framer>⟧ to.old.chain) to.new.receiver }
-    ensures held { IfAgain result (λ enough. IsHeld (N.net net.new).trace to.old.socket (is_stream to.old.stack)
-        to.old.sender.shut to.new.receiver.ended) }
-    ensures kept { to.new ≡ record to.old { receiver = to.new.receiver; sender = to.new.sender } }
-    ensures sender { to.new.sender ≡ record to.old.sender { moment = to.new.sender.moment } }
+    ensures once { HasAskedOnce ⟦<dyn Framer as Framer>⟧ to.old to.new (N.net net.old) (N.net net.new)
+        (λ P. IfAgain result (λ enough. P)) }
 {
     let waiting = is_waiting(from);
     let needs = needed(from.sent(), waiting);
@@ -112,15 +104,8 @@ pub fn hear_last<N: Reporting, S: Open, T: Open>(
         rest_by deadline (N.net net.old).told to.old.receiver.ended (unread_of to.old.receiver.source)) }
     ensures lags { IfAgain result (λ again. again ≡ false →
         count_given (unread_of to.new.receiver.source) < from.now.sender.sent) }
-    ensures changes { Changes to.old.socket 1 (N.net net.old) (N.net net.new) }
-    ensures spare { IfAgain result (λ again. (N.net net.old).spare + one_unless to.new.receiver.ended ≤
-        (N.net net.new).spare + one_unless to.old.receiver.ended) }
-    ensures sound { IsSoundReceiver ⟦<dyn Framer as Framer>⟧ to.old.stack
-        (layers_of ⟦<dyn Framer as Framer>⟧ to.old.chain) to.new.receiver }
-    ensures held { IfAgain result (λ again. IsHeld (N.net net.new).trace to.old.socket (is_stream to.old.stack)
-        to.old.sender.shut to.new.receiver.ended) }
-    ensures kept { to.new ≡ record to.old { receiver = to.new.receiver; sender = to.new.sender } }
-    ensures sender { to.new.sender ≡ record to.old.sender { moment = to.new.sender.moment } }
+    ensures once { HasAskedOnce ⟦<dyn Framer as Framer>⟧ to.old to.new (N.net net.old) (N.net net.new)
+        (λ P. IfAgain result (λ again. P)) }
 {
     if enough {
         heard.truncate(from.sent() as usize);

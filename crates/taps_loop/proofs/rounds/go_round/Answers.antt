@@ -75,11 +75,11 @@ returns-in-Err-clause-rounded g c =
 
 pub returns-in-Ok-Gone-clause-moves : goal.returns-in-Ok-Gone-clause-moves
 returns-in-Ok-Gone-clause-moves g c =
-    moves_on c.args.from.now.socket c.args.to.now.socket (g.N.Sockets.net c.args.net.now) (g.N.Sockets.net c.send_in_turn.new.net) (g.N.Sockets.net c.hear_behind.new.net) (moves_from c.args.from.now.socket c.args.to.now.socket 1 (g.N.Sockets.net c.args.net.now) (g.N.Sockets.net c.send_in_turn.new.net) c.in-Ok-Gone.ensures.changes) (moves_to c.args.from.now.socket c.args.to.now.socket 1 (g.N.Sockets.net c.send_in_turn.new.net) (g.N.Sockets.net c.hear_behind.new.net) c.hear_behind.ensures.changes)
+    moves_on c.args.from.now.socket c.args.to.now.socket (g.N.Sockets.net c.args.net.now) (g.N.Sockets.net c.send_in_turn.new.net) (g.N.Sockets.net c.hear_behind.new.net) (moves_from c.args.from.now.socket c.args.to.now.socket 1 (g.N.Sockets.net c.args.net.now) (g.N.Sockets.net c.send_in_turn.new.net) c.in-Ok-Gone.ensures.changes) (moves_to c.args.from.now.socket c.args.to.now.socket 1 (g.N.Sockets.net c.send_in_turn.new.net) (g.N.Sockets.net c.hear_behind.new.net) c.hear_behind.ensures.once.changes)
 
 pub returns-in-Ok-Nothing-clause-moves : goal.returns-in-Ok-Nothing-clause-moves
 returns-in-Ok-Nothing-clause-moves g c =
-    moves_on c.args.from.now.socket c.args.to.now.socket (g.N.Sockets.net c.args.net.now) (g.N.Sockets.net c.send_in_turn.new.net) (g.N.Sockets.net c.hear_last.new.net) (moves_from c.args.from.now.socket c.args.to.now.socket 1 (g.N.Sockets.net c.args.net.now) (g.N.Sockets.net c.send_in_turn.new.net) c.in-Ok-Nothing.ensures.changes) (moves_to c.args.from.now.socket c.args.to.now.socket 1 (g.N.Sockets.net c.send_in_turn.new.net) (g.N.Sockets.net c.hear_last.new.net) c.hear_last.ensures.changes)
+    moves_on c.args.from.now.socket c.args.to.now.socket (g.N.Sockets.net c.args.net.now) (g.N.Sockets.net c.send_in_turn.new.net) (g.N.Sockets.net c.hear_last.new.net) (moves_from c.args.from.now.socket c.args.to.now.socket 1 (g.N.Sockets.net c.args.net.now) (g.N.Sockets.net c.send_in_turn.new.net) c.in-Ok-Nothing.ensures.changes) (moves_to c.args.from.now.socket c.args.to.now.socket 1 (g.N.Sockets.net c.send_in_turn.new.net) (g.N.Sockets.net c.hear_last.new.net) c.hear_last.ensures.once.changes)
 
 pub returns-in-Ok-Passed-clause-moves : goal.returns-in-Ok-Passed-clause-moves
 returns-in-Ok-Passed-clause-moves g c =
@@ -97,13 +97,13 @@ pub returns-in-Ok-Gone-clause-holds : goal.returns-in-Ok-Gone-clause-holds
 returns-in-Ok-Gone-clause-holds g c =
     let before : IsHeld (g.N.Sockets.net c.send_in_turn.new.net).trace c.args.from.now.socket (is_stream c.args.from.now.stack) c.send_in_turn.new.from.sender.shut c.args.from.now.receiver.ended = subst (λ o. IfOutGoesOn (Ok o) (IsHeld (g.N.Sockets.net c.send_in_turn.new.net).trace c.args.from.now.socket (is_stream c.args.from.now.stack) c.send_in_turn.new.from.sender.shut c.args.from.now.receiver.ended)) c.in-Ok-Gone.field-0-is c.in-Ok-Gone.ensures.held in
     if_again c.hear_behind.result (λ again. IsHeld (g.N.Sockets.net c.hear_behind.new.net).trace c.args.from.now.socket (is_stream c.args.from.now.stack) c.send_in_turn.new.from.sender.shut c.args.from.now.receiver.ended)
-    (λ again. held_apart c.args.from.now.socket c.args.to.now.socket 1 (g.N.Sockets.net c.send_in_turn.new.net) (g.N.Sockets.net c.hear_behind.new.net) (is_stream c.args.from.now.stack) c.send_in_turn.new.from.sender.shut c.args.from.now.receiver.ended (λ e. c.requires.apart (sym e)) c.hear_behind.ensures.changes before)
+    (λ again. held_apart c.args.from.now.socket c.args.to.now.socket 1 (g.N.Sockets.net c.send_in_turn.new.net) (g.N.Sockets.net c.hear_behind.new.net) (is_stream c.args.from.now.stack) c.send_in_turn.new.from.sender.shut c.args.from.now.receiver.ended (λ e. c.requires.apart (sym e)) c.hear_behind.ensures.once.changes before)
 
 pub returns-in-Ok-Nothing-clause-holds : goal.returns-in-Ok-Nothing-clause-holds
 returns-in-Ok-Nothing-clause-holds g c =
     let before : IsHeld (g.N.Sockets.net c.send_in_turn.new.net).trace c.args.from.now.socket (is_stream c.args.from.now.stack) c.send_in_turn.new.from.sender.shut c.args.from.now.receiver.ended = subst (λ o. IfOutGoesOn (Ok o) (IsHeld (g.N.Sockets.net c.send_in_turn.new.net).trace c.args.from.now.socket (is_stream c.args.from.now.stack) c.send_in_turn.new.from.sender.shut c.args.from.now.receiver.ended)) c.in-Ok-Nothing.field-0-is c.in-Ok-Nothing.ensures.held in
     if_again c.hear_last.result (λ again. IsHeld (g.N.Sockets.net c.hear_last.new.net).trace c.args.from.now.socket (is_stream c.args.from.now.stack) c.send_in_turn.new.from.sender.shut c.args.from.now.receiver.ended)
-    (λ again. held_apart c.args.from.now.socket c.args.to.now.socket 1 (g.N.Sockets.net c.send_in_turn.new.net) (g.N.Sockets.net c.hear_last.new.net) (is_stream c.args.from.now.stack) c.send_in_turn.new.from.sender.shut c.args.from.now.receiver.ended (λ e. c.requires.apart (sym e)) c.hear_last.ensures.changes before)
+    (λ again. held_apart c.args.from.now.socket c.args.to.now.socket 1 (g.N.Sockets.net c.send_in_turn.new.net) (g.N.Sockets.net c.hear_last.new.net) (is_stream c.args.from.now.stack) c.send_in_turn.new.from.sender.shut c.args.from.now.receiver.ended (λ e. c.requires.apart (sym e)) c.hear_last.ensures.once.changes before)
 
 pub returns-in-Ok-Passed-clause-held : goal.returns-in-Ok-Passed-clause-held
 returns-in-Ok-Passed-clause-held g c =
