@@ -1,4 +1,5 @@
--- The accepted end may still ask, behind a call of the other socket and behind a look in what it read.
+-- The ends may still take turns, and the accepted one may still ask: behind a call of the other socket, and behind a
+-- look in what was read.
 use Rattle.std.proofs.Common.{◌≡◌, ◌≢◌, ℕ, ◌≤◌, sym, subst, arith}
 use Rattle.taps_framer.specs.declared.framer.Framer as framer
 use Rattle.taps_chain.specs.Layers.{layers_of}
@@ -8,7 +9,7 @@ use Rattle.taps_connection.specs.declared.connection.Connection.{Connection}
 use Rattle.taps_connection.specs.Conditions.{IsHeld}
 use Rattle.taps_connection.specs.Inboxes.{IsSoundReceiver}
 use Rattle.taps_exchange.specs.Changes.{Changes}
-use Rattle.taps_loop.specs.Connections.{MayAsk}
+use Rattle.taps_loop.specs.Connections.{MayTakeTurns, MayAsk}
 use Rattle.taps_loop.proofs.Acceptings.{some_items}
 use Rattle.taps_loop.proofs.Moving.{held_apart}
 
@@ -32,6 +33,21 @@ asks_looked boxed to now net deadline kept ended sound h =
       sound = sound;
       held = subst (λ e. IsHeld net.trace to.socket (is_stream to.stack) to.sender.shut e) (sym ended) h.held;
       spare = h.spare;
+      bounded = h.bounded;
+      some = h.some;
+    })
+
+pub turns_looked : {X : Type 0} {F : X → Type 0} {S T : Type 0} (boxed : (x : X) → framer.Ghosts (F x)) (from : Connection S X F) (to now : Connection T X F) (net : Net) (deadline : ℕ) → now ≡ record to { receiver = now.receiver } → now.receiver.ended ≡ to.receiver.ended → IsSoundReceiver boxed to.stack (layers_of boxed to.chain) now.receiver → MayTakeTurns boxed from to net deadline → MayTakeTurns boxed from now net deadline
+turns_looked boxed from to now net deadline kept ended sound h =
+    subst (λ z. MayTakeTurns boxed from z net deadline) (sym kept)
+    (record {
+      framers = h.framers;
+      hearers = h.hearers;
+      sends = h.sends;
+      holds = h.holds;
+      sound = sound;
+      held = subst (λ e. IsHeld net.trace to.socket (is_stream to.stack) to.sender.shut e) (sym ended) h.held;
+      apart = h.apart;
       bounded = h.bounded;
       some = h.some;
     })

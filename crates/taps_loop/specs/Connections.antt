@@ -2,6 +2,7 @@
 use Rattle.std.specs.Prelude.{◌≡◌, ◌≢◌, ◌≤◌, ◌<◌, ◌^◌, ◌+◌, ℕ, List, [], Result}
 use Rattle.taps_base.specs.declared.no_memory.NoMemory.{NoMemory}
 use Rattle.taps_framer.specs.declared.framer.Framer as framer
+use Rattle.taps_chain.specs.ChainLaws.{AreFramers}
 use Rattle.taps_chain.specs.Layers.{layers_of}
 use Rattle.taps_stack.specs.StackTable.{is_stream}
 use Rattle.taps_socket.specs.Calls.{Call}
@@ -12,6 +13,7 @@ use Rattle.taps_connection.specs.declared.sender.Sender.{Sender}
 use Rattle.taps_connection.specs.Conditions.{IsHeld}
 use Rattle.taps_connection.specs.Encodings.{encoding_of}
 use Rattle.taps_connection.specs.Inboxes.{IsSoundReceiver}
+use Rattle.taps_connection.specs.Sound.{IsSound}
 use Rattle.taps_connection.specs.Sources.{unread_of}
 use Rattle.taps_exchange.specs.Changes.{Changes}
 use Rattle.taps_exchange.specs.Hearings.{one_unless}
@@ -20,6 +22,19 @@ use Rattle.taps_loop.specs.declared.rounds.Round.{Round}
 use Rattle.taps_loop.specs.Loops.{Ends}
 use Rattle.taps_loop.specs.Hears.{IsEnd, IsKept, IsInIf, HasAsked}
 use Rattle.taps_loop.specs.Rounds.{AreEnds, AreKept, HasRounded}
+
+-- Both ends may take turns, up to a deadline: what is kept of them is sound, and their sockets, which are two, are held.
+pub record MayTakeTurns {X : Type 0} {F : X → Type 0} {S T : Type 0} (boxed : (x : X) → framer.Ghosts (F x))
+    (from : Connection S X F) (to : Connection T X F) (net : Net) (deadline : ℕ) : Type 0 where
+  pub framers : AreFramers (layers_of boxed from.chain)
+  pub hearers : AreFramers (layers_of boxed to.chain)
+  pub sends : IsSound (is_stream from.stack) (layers_of boxed from.chain) from.sender
+  pub holds : IsHeld net.trace from.socket (is_stream from.stack) from.sender.shut from.receiver.ended
+  pub sound : IsSoundReceiver boxed to.stack (layers_of boxed to.chain) to.receiver
+  pub held : IsHeld net.trace to.socket (is_stream to.stack) to.sender.shut to.receiver.ended
+  pub apart : to.socket ≢ from.socket
+  pub bounded : deadline < 2 ^ 63
+  pub some : net.trace ≢ []
 
 -- the accepted end may ask once, up to a deadline: what is kept of its receiving is sound, its socket is held, and one
 -- item more has room

@@ -13,7 +13,7 @@ ghost use Rattle.taps_socket.specs.Calls.{closes};
 ghost use Rattle.taps_socket.specs.LiveSockets.{live_sockets};
 ghost use Rattle.taps_socket.specs.RaceSockets.{has};
 ghost use Rattle.taps_stack.specs.StackTable.{is_stream};
-ghost use Rattle.taps_loop.specs.Connections.{FromFirst};
+ghost use Rattle.taps_loop.specs.Connections.{MayTakeTurns, FromFirst};
 ghost use Rattle.taps_loop.specs.Looped.{AreEndsOver, MayExchange, HasClosedBoth, HasClosedOver, ClosesTwo, ClosesBoth};
 ghost use Rattle.taps_loop.specs.Loops.{Ends};
 
@@ -68,19 +68,9 @@ fn exchange_open<N: Reporting>(
     deadline: u64,
     net: &mut N,
 ) -> Result<Exchanged, NoMemory>
-    requires framers { AreFramers (layers_of ⟦<dyn Framer as Framer>⟧ from.chain) }
-    requires hearers { AreFramers (layers_of ⟦<dyn Framer as Framer>⟧ to.chain) }
-    requires sends { IsSound (is_stream from.stack) (layers_of ⟦<dyn Framer as Framer>⟧ from.chain) from.sender }
+    requires may { MayTakeTurns ⟦<dyn Framer as Framer>⟧ from to (N.net net.old) deadline }
     requires none { from.sender.begun ≡ None }
-    requires holds { IsHeld (N.net net.old).trace from.socket (is_stream from.stack) from.sender.shut
-        from.receiver.ended }
-    requires sound { IsSoundReceiver ⟦<dyn Framer as Framer>⟧ to.stack
-        (layers_of ⟦<dyn Framer as Framer>⟧ to.chain) to.receiver }
-    requires held { IsHeld (N.net net.old).trace to.socket (is_stream to.stack) to.sender.shut to.receiver.ended }
-    requires apart { to.socket ≢ from.socket }
     requires spare { 6 ≤ (N.net net.old).spare }
-    requires deadline { deadline < 2 ^ 63 }
-    requires some { (N.net net.old).trace ≢ [] }
     ensures closed { FromFirst ⟦<dyn Framer as Framer>⟧ from.entry to.entry deadline (N.net net.old).told []
         (λ x. x.from.messages ≡ queued from.entry.sender)
         (λ x. HasClosedBoth N.Becomes x from.entry.socket to.entry.socket net.old net.new result) }

@@ -1,5 +1,5 @@
 // A round of the ends: the one sends, and then the other hears.
-ghost use Rattle.std.specs.Prelude.{◌≡◌, ◌≢◌, ◌≤◌, ◌<◌, ◌^◌, ◌+◌, [], false};
+ghost use Rattle.std.specs.Prelude.{◌≡◌, ◌≤◌, ◌<◌, ◌^◌, ◌+◌, false};
 ghost use Rattle.taps_chain.specs.ChainLaws.{AreFramers};
 ghost use Rattle.taps_chain.specs.Layers.{layers_of};
 ghost use Rattle.taps_connection.specs.Conditions.{IsHeld};
@@ -11,7 +11,7 @@ ghost use Rattle.taps_connection.specs.Unread.{count_given};
 ghost use Rattle.taps_exchange.specs.Hearings.{one_unless};
 ghost use Rattle.taps_exchange.specs.Turns as exchange;
 ghost use Rattle.taps_stack.specs.StackTable.{is_stream};
-ghost use Rattle.taps_loop.specs.Connections.{MayAsk, HasAskedOnce, GoesRound};
+ghost use Rattle.taps_loop.specs.Connections.{MayTakeTurns, MayAsk, HasAskedOnce, GoesRound};
 ghost use Rattle.taps_loop.specs.Hears.{one_true};
 ghost use Rattle.taps_loop.specs.Rounds.{Stands, IsLast, rest_by, Lags, IfAgain, Moves, until_if};
 ghost use Rattle.taps_loop.specs.Sends.{HasGone, HasRest, waits, count_left};
@@ -155,23 +155,11 @@ pub fn go_round<N: Reporting, S: Open, T: Open>(
     net: &mut N,
     heard: &mut Vec<Body>,
 ) -> Result<Round, NoMemory>
-    requires framers { AreFramers (layers_of ⟦<dyn Framer as Framer>⟧ from.old.chain) }
-    requires hearers { AreFramers (layers_of ⟦<dyn Framer as Framer>⟧ to.old.chain) }
-    requires sends { IsSound (is_stream from.old.stack) (layers_of ⟦<dyn Framer as Framer>⟧ from.old.chain)
-        from.old.sender }
-    requires holds { IsHeld (N.net net.old).trace from.old.socket (is_stream from.old.stack)
-        from.old.sender.shut from.old.receiver.ended }
+    requires may { MayTakeTurns ⟦<dyn Framer as Framer>⟧ from.old to.old (N.net net.old) deadline }
     requires room { rest_of from.old.sender ≤ ((N.net net.old).traffic from.old.socket).room }
     requires rest { HasRest from.old.sender.begun }
-    requires sound { IsSoundReceiver ⟦<dyn Framer as Framer>⟧ to.old.stack
-        (layers_of ⟦<dyn Framer as Framer>⟧ to.old.chain) to.old.receiver }
-    requires held { IsHeld (N.net net.old).trace to.old.socket (is_stream to.old.stack) to.old.sender.shut
-        to.old.receiver.ended }
-    requires apart { to.old.socket ≢ from.old.socket }
     requires lags { Lags enough from.old.sender (unread_of to.old.receiver.source) }
     requires spare { 2 ≤ (N.net net.old).spare }
-    requires deadline { deadline < 2 ^ 63 }
-    requires some { (N.net net.old).trace ≢ [] }
     ensures rounded { GoesRound ⟦<dyn Framer as Framer>⟧ N.Becomes from.old to.old deadline net.old net.new
         (N.net net.old).told heard.old.items (λ x calls. Stands x calls from.old.sender heard.old.items enough) result
         from.new.sender (N.net net.new).told to.new.receiver heard.new.items }

@@ -1,16 +1,34 @@
 use Rattle.std.proofs.Common.{◌≡◌, [], ℕ, length, sym, ap, subst, ◌∙◌}
+use Rattle.taps_chain.specs.ChainLaws.{AreFramers}
 use Rattle.taps_chain.specs.Layers.{layers_of}
 use Rattle.taps_stack.specs.StackTable.{is_stream}
+use Rattle.taps_connection.specs.Conditions.{IsHeld}
 use Rattle.taps_connection.specs.Encodings.{encoding_of}
 use Rattle.taps_connection.specs.Histories.{Represents}
 use Rattle.taps_connection.specs.Senders.{queued}
 use Rattle.taps_connection.specs.Sources.{unread_of}
 use Rattle.taps_connection.specs.Unread.{first_unread}
+use Rattle.taps_loop.specs.Connections.{MayTakeTurns}
 use Rattle.taps_loop.specs.Loops.{Ends}
 use Rattle.taps_loop.specs.Rounds.{AreEnds, AreKept}
 use Rattle.taps_loop.specs.Looped.{HasClosedBoth}
 use Rattle.taps_loop.proofs.Acceptings.{ends_of, kept_first}
 use Rattle.taps_loop.proofs.both.exchange_all.Goals as goal
+
+pub exchange_open-requires-clause-may : goal.exchange_open-requires-clause-may
+exchange_open-requires-clause-may g c =
+    subst (λ z. MayTakeTurns (λ vtable. (g.dyn-1.0.entry vtable).1) z c.args.to (g.N.Sockets.net c.args.net.now) c.args.deadline) (sym c.in-Ok.ensures.kept)
+    (record {
+      framers = c.requires.framers;
+      hearers = subst AreFramers (sym c.requires.same) c.requires.framers;
+      sends = c.in-Ok.ensures.sound;
+      holds = subst (λ b. IsHeld (g.N.Sockets.net c.args.net.now).trace c.args.from.socket (is_stream c.args.from.stack) b c.args.from.receiver.ended) (sym c.in-Ok.ensures.still_open) c.requires.holds;
+      sound = c.requires.sound;
+      held = c.requires.held;
+      apart = c.requires.apart;
+      bounded = c.requires.deadline;
+      some = c.requires.some;
+    })
 
 pub returns-in-Ok-clause-closed : goal.returns-in-Ok-clause-closed
 returns-in-Ok-clause-closed g c =

@@ -18,13 +18,13 @@ use Rattle.taps_loop.proofs.rounds.go_round.Goals as goal
 
 pub hear_behind-requires-clause-asks : goal.hear_behind-requires-clause-asks
 hear_behind-requires-clause-asks g c =
-    asks_apart (λ vtable. (g.dyn-1.0.entry vtable).1) c.args.to.now c.args.from.now.socket (g.N.Sockets.net c.args.net.now) (g.N.Sockets.net c.send_in_turn.new.net) c.args.deadline c.requires.apart c.requires.spare c.in-Ok-Gone.ensures.changes
-    (record { sound = c.requires.sound; held = c.requires.held; spare = (let two = c.requires.spare in omega (arith, two)); bounded = c.requires.deadline; some = c.requires.some })
+    asks_apart (λ vtable. (g.dyn-1.0.entry vtable).1) c.args.to.now c.args.from.now.socket (g.N.Sockets.net c.args.net.now) (g.N.Sockets.net c.send_in_turn.new.net) c.args.deadline c.requires.may.apart c.requires.spare c.in-Ok-Gone.ensures.changes
+    (record { sound = c.requires.may.sound; held = c.requires.may.held; spare = (let two = c.requires.spare in omega (arith, two)); bounded = c.requires.may.bounded; some = c.requires.may.some })
 
 pub hear_last-requires-clause-asks : goal.hear_last-requires-clause-asks
 hear_last-requires-clause-asks g c =
-    asks_apart (λ vtable. (g.dyn-1.0.entry vtable).1) c.args.to.now c.args.from.now.socket (g.N.Sockets.net c.args.net.now) (g.N.Sockets.net c.send_in_turn.new.net) c.args.deadline c.requires.apart c.requires.spare c.in-Ok-Nothing.ensures.changes
-    (record { sound = c.requires.sound; held = c.requires.held; spare = (let two = c.requires.spare in omega (arith, two)); bounded = c.requires.deadline; some = c.requires.some })
+    asks_apart (λ vtable. (g.dyn-1.0.entry vtable).1) c.args.to.now c.args.from.now.socket (g.N.Sockets.net c.args.net.now) (g.N.Sockets.net c.send_in_turn.new.net) c.args.deadline c.requires.may.apart c.requires.spare c.in-Ok-Nothing.ensures.changes
+    (record { sound = c.requires.may.sound; held = c.requires.may.held; spare = (let two = c.requires.spare in omega (arith, two)); bounded = c.requires.may.bounded; some = c.requires.may.some })
 
 pub returns-in-Ok-Gone-clause-rounded : goal.returns-in-Ok-Gone-clause-rounded
 returns-in-Ok-Gone-clause-rounded g c =
@@ -97,14 +97,14 @@ pub returns-in-Ok-Gone-clause-holds : goal.returns-in-Ok-Gone-clause-holds
 returns-in-Ok-Gone-clause-holds g c =
     let before : IsHeld (g.N.Sockets.net c.send_in_turn.new.net).trace c.args.from.now.socket (is_stream c.args.from.now.stack) c.send_in_turn.new.from.sender.shut c.args.from.now.receiver.ended = subst (λ o. IfOutGoesOn (Ok o) (IsHeld (g.N.Sockets.net c.send_in_turn.new.net).trace c.args.from.now.socket (is_stream c.args.from.now.stack) c.send_in_turn.new.from.sender.shut c.args.from.now.receiver.ended)) c.in-Ok-Gone.field-0-is c.in-Ok-Gone.ensures.held in
     if_again c.hear_behind.result (λ again. IsHeld (g.N.Sockets.net c.hear_behind.new.net).trace c.args.from.now.socket (is_stream c.args.from.now.stack) c.send_in_turn.new.from.sender.shut c.args.from.now.receiver.ended)
-    (λ again. held_apart c.args.from.now.socket c.args.to.now.socket 1 (g.N.Sockets.net c.send_in_turn.new.net) (g.N.Sockets.net c.hear_behind.new.net) (is_stream c.args.from.now.stack) c.send_in_turn.new.from.sender.shut c.args.from.now.receiver.ended (λ e. c.requires.apart (sym e)) c.hear_behind.ensures.once.changes before)
+    (λ again. held_apart c.args.from.now.socket c.args.to.now.socket 1 (g.N.Sockets.net c.send_in_turn.new.net) (g.N.Sockets.net c.hear_behind.new.net) (is_stream c.args.from.now.stack) c.send_in_turn.new.from.sender.shut c.args.from.now.receiver.ended (λ e. c.requires.may.apart (sym e)) c.hear_behind.ensures.once.changes before)
 
 pub returns-in-Ok-Nothing-clause-holds : goal.returns-in-Ok-Nothing-clause-holds
 returns-in-Ok-Nothing-clause-holds g c =
     let before : IsHeld (g.N.Sockets.net c.send_in_turn.new.net).trace c.args.from.now.socket (is_stream c.args.from.now.stack) c.send_in_turn.new.from.sender.shut c.args.from.now.receiver.ended = subst (λ o. IfOutGoesOn (Ok o) (IsHeld (g.N.Sockets.net c.send_in_turn.new.net).trace c.args.from.now.socket (is_stream c.args.from.now.stack) c.send_in_turn.new.from.sender.shut c.args.from.now.receiver.ended)) c.in-Ok-Nothing.field-0-is c.in-Ok-Nothing.ensures.held in
     if_again c.hear_last.result (λ again. IsHeld (g.N.Sockets.net c.hear_last.new.net).trace c.args.from.now.socket (is_stream c.args.from.now.stack) c.send_in_turn.new.from.sender.shut c.args.from.now.receiver.ended)
-    (λ again. held_apart c.args.from.now.socket c.args.to.now.socket 1 (g.N.Sockets.net c.send_in_turn.new.net) (g.N.Sockets.net c.hear_last.new.net) (is_stream c.args.from.now.stack) c.send_in_turn.new.from.sender.shut c.args.from.now.receiver.ended (λ e. c.requires.apart (sym e)) c.hear_last.ensures.once.changes before)
+    (λ again. held_apart c.args.from.now.socket c.args.to.now.socket 1 (g.N.Sockets.net c.send_in_turn.new.net) (g.N.Sockets.net c.hear_last.new.net) (is_stream c.args.from.now.stack) c.send_in_turn.new.from.sender.shut c.args.from.now.receiver.ended (λ e. c.requires.may.apart (sym e)) c.hear_last.ensures.once.changes before)
 
 pub returns-in-Ok-Passed-clause-held : goal.returns-in-Ok-Passed-clause-held
 returns-in-Ok-Passed-clause-held g c =
-    held_apart c.args.to.now.socket c.args.from.now.socket 1 (g.N.Sockets.net c.args.net.now) (g.N.Sockets.net c.send_in_turn.new.net) (is_stream c.args.to.now.stack) c.args.to.now.sender.shut c.args.to.now.receiver.ended c.requires.apart c.in-Ok-Passed.ensures.changes c.requires.held
+    held_apart c.args.to.now.socket c.args.from.now.socket 1 (g.N.Sockets.net c.args.net.now) (g.N.Sockets.net c.send_in_turn.new.net) (is_stream c.args.to.now.stack) c.args.to.now.sender.shut c.args.to.now.receiver.ended c.requires.may.apart c.in-Ok-Passed.ensures.changes c.requires.may.held

@@ -1,4 +1,4 @@
-use Rattle.std.proofs.Common.{◌≤◌, ◌+◌, ℕ, List, subst, arith}
+use Rattle.std.proofs.Common.{◌≤◌, ◌+◌, ℕ, List, sym, subst, arith}
 use Rattle.std.specs.Prelude.{Ok, Err}
 use Rattle.taps_chain.specs.Layers.{layers_of}
 use Rattle.taps_stack.specs.StackTable.{is_stream}
@@ -13,11 +13,31 @@ use Rattle.taps_connection.specs.Sources.{unread_of}
 use Rattle.taps_exchange.specs.Hearings.{one_unless}
 use Rattle.taps_exchange.proofs.HearingOn.{kept_both, sender_both}
 use Rattle.taps_exchange.proofs.SendingAll.{kept_on}
+use Rattle.taps_loop.specs.Connections.{MayTakeTurns}
 use Rattle.taps_loop.specs.Loops.{Ends}
 use Rattle.taps_loop.specs.Rounds.{AreEnds, AreKept, Stands, HasRounded, IfAgain, Lags, Moves}
+use Rattle.taps_loop.proofs.Acceptings.{some_items}
 use Rattle.taps_loop.proofs.Moving.{moves_on}
 use Rattle.taps_loop.proofs.Going.{goes_again, goes_over, goes_short}
 use Rattle.taps_loop.proofs.turns.go_rounds.Goals as goal
+
+pub go_round-requires-clause-may : goal.go_round-requires-clause-may
+go_round-requires-clause-may g c =
+    let i = c.turns.invariant in
+    let trace = (g.N.Sockets.net c.turns.net).trace in
+    subst (λ z. MayTakeTurns (λ vtable. (g.dyn-1.0.entry vtable).1) z c.turns.to (g.N.Sockets.net c.turns.net) c.args.deadline) (sym i.sender_kept)
+    (subst (λ z. MayTakeTurns (λ vtable. (g.dyn-1.0.entry vtable).1) (record c.args.from.now { sender = c.turns.from.sender }) z (g.N.Sockets.net c.turns.net) c.args.deadline) (sym i.kept)
+    (record {
+      framers = c.requires.may.framers;
+      hearers = c.requires.may.hearers;
+      sends = i.sends;
+      holds = i.holds;
+      sound = i.sound;
+      held = subst (λ (z : Sender). IsHeld trace c.args.to.now.socket (is_stream c.args.to.now.stack) z.shut c.turns.to.receiver.ended) (sym i.moment) i.held;
+      apart = c.requires.may.apart;
+      bounded = c.requires.may.bounded;
+      some = some_items trace c.args.to.now.socket (is_stream c.args.to.now.stack) c.args.to.now.sender.shut c.turns.to.receiver.ended i.held;
+    }))
 
 pub turns-preserved : goal.turns-preserved
 turns-preserved g c =

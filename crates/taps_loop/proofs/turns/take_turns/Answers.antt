@@ -6,7 +6,12 @@ use Rattle.taps_connection.specs.Encodings.{encoding_of}
 use Rattle.taps_connection.specs.Sources.{unread_of}
 use Rattle.taps_loop.specs.Loops.{Ends}
 use Rattle.taps_loop.specs.Rounds.{AreEnds, AreKept, Stands, IsRound, HasTaken}
+use Rattle.taps_loop.proofs.MayAsking.{turns_looked}
 use Rattle.taps_loop.proofs.turns.take_turns.Goals as goal
+
+pub go_rounds-requires-clause-may : goal.go_rounds-requires-clause-may
+go_rounds-requires-clause-may g c =
+    turns_looked (λ vtable. (g.dyn-1.0.entry vtable).1) c.args.from.now c.args.to.now c.first_look.new.to (g.N.Sockets.net c.args.net.now) c.args.deadline c.in-Ok-Again.ensures.kept c.in-Ok-Again.ensures.ended c.in-Ok-Again.ensures.sound c.requires.may
 
 pub returns-in-Ok-Again-clause-taken : goal.returns-in-Ok-Again-clause-taken
 returns-in-Ok-Again-clause-taken g c =
