@@ -23,7 +23,8 @@ use Rattle.taps_loop.specs.Loops.{Ends}
 use Rattle.taps_loop.specs.Hears.{IsEnd, IsKept, IsInIf, HasAsked}
 use Rattle.taps_loop.specs.Rounds.{AreEnds, AreKept, HasRounded}
 
--- Both ends may take turns, up to a deadline: what is kept of them is sound, and their sockets, which are two, are held.
+-- Both ends may take turns, up to a deadline: what is kept of them is sound, and their sockets, which are two, are
+-- held.
 pub record MayTakeTurns {X : Type 0} {F : X → Type 0} {S T : Type 0} (boxed : (x : X) → framer.Ghosts (F x))
     (from : Connection S X F) (to : Connection T X F) (net : Net) (deadline : ℕ) : Type 0 where
   pub framers : AreFramers (layers_of boxed from.chain)
