@@ -1,16 +1,15 @@
-use Rattle.std.proofs.Common.{◌≡◌, ◌+◌, ◌++◌, ℕ, List, sym, ap, subst, ◌∙◌, arith}
+use Rattle.std.proofs.Common.{◌≡◌, ◌+◌, ◌++◌, sym, ap, subst, ◌∙◌, arith}
 use Rattle.std.specs.Prelude.{Ok, Err, take}
 use Rattle.taps_chain.specs.Layers.{layers_of}
 use Rattle.taps_stack.specs.StackTable.{is_stream}
-use Rattle.taps_socket.specs.Calls.{Call}
 use Rattle.taps_connection.specs.Conditions.{IsHeld}
 use Rattle.taps_connection.specs.Encodings.{encoding_of}
 use Rattle.taps_connection.specs.Sources.{unread_of}
 use Rattle.taps_loop.specs.declared.sending.Out.TheVariants as out
 use Rattle.taps_loop.specs.declared.rounds.Round.TheVariants as round
-use Rattle.taps_loop.specs.Loops.{Ends}
+use Rattle.taps_loop.specs.Connections.{GoesRound}
 use Rattle.taps_loop.specs.Sends.{HasGone, waits, IsToSend, HasTurned, IsFurther, IfOutGoesOn}
-use Rattle.taps_loop.specs.Rounds.{until_if, AreEnds, AreKept, IsLast, HasRounded}
+use Rattle.taps_loop.specs.Rounds.{until_if, IsLast, HasRounded}
 use Rattle.taps_loop.proofs.GoingRound.{to_send, sent_kept, last_of, again_of, over_of, then_rounded, over_rounded, again_rounded, memory_rounded}
 use Rattle.taps_loop.proofs.MayAsking.{asks_apart}
 use Rattle.taps_loop.proofs.Moving.{held_apart, moves_from, moves_to, moves_on, if_again}
@@ -31,8 +30,7 @@ returns-in-Ok-Gone-clause-rounded g c =
     λ x calls piece ends kept stands.
     let start = subst (λ u. IsToSend x calls (encoding_of (is_stream c.args.from.now.stack) (layers_of (λ vtable. (g.dyn-1.0.entry vtable).1) c.args.from.now.chain)) c.args.from.now.socket u c.args.deadline c.args.from.now.sender) (ap (λ k. until_if c.args.enough k c.args.deadline) (sym c.told.ensures) ∙ sym c.until_of-until.ensures.until) (to_send g.N.Sockets.Becomes x calls (encoding_of (is_stream c.args.from.now.stack) (layers_of (λ vtable. (g.dyn-1.0.entry vtable).1) c.args.from.now.chain)) c.args.from.now.socket (is_stream c.args.to.now.stack) (layers_of (λ vtable. (g.dyn-1.0.entry vtable).1) c.args.to.now.chain) c.args.to.now.socket piece c.args.deadline c.args.net.now c.send_in_turn.new.net c.args.from.now.sender c.send_in_turn.new.from.sender (g.N.Sockets.net c.args.net.now).told (g.N.Sockets.net c.send_in_turn.new.net).told c.args.to.now.receiver.ended (unread_of c.args.to.now.receiver.source) c.args.heard.now.items c.args.enough ends kept stands) in
     let h = subst (λ o. HasTurned g.N.Sockets.Becomes x calls (encoding_of (is_stream c.args.from.now.stack) (layers_of (λ vtable. (g.dyn-1.0.entry vtable).1) c.args.from.now.chain)) c.args.net.now c.send_in_turn.new.net (Ok o) c.send_in_turn.new.from.sender) c.in-Ok-Gone.field-0-is (c.in-Ok-Gone.ensures.turned x calls start) in
-    let hears = subst (λ z. (x : Ends) (calls : List Call) (piece : ℕ) → AreEnds x (encoding_of (is_stream z.stack) (layers_of (λ vtable. (g.dyn-1.0.entry vtable).1) z.chain)) z.socket (is_stream c.args.to.now.stack) (layers_of (λ vtable. (g.dyn-1.0.entry vtable).1) c.args.to.now.chain) c.args.to.now.socket piece c.args.deadline → AreKept x calls (encoding_of (is_stream z.stack) (layers_of (λ vtable. (g.dyn-1.0.entry vtable).1) z.chain)) (is_stream c.args.to.now.stack) (layers_of (λ vtable. (g.dyn-1.0.entry vtable).1) c.args.to.now.chain) piece c.send_in_turn.new.from.sender (g.N.Sockets.net c.send_in_turn.new.net).told c.args.to.now.receiver.ended (unread_of c.args.to.now.receiver.source) c.args.heard.now.items → HasGone x calls (waits c.send_in_turn.new.from.sender) →
-    HasRounded g.N.Sockets.Becomes x calls (encoding_of (is_stream z.stack) (layers_of (λ vtable. (g.dyn-1.0.entry vtable).1) z.chain)) (is_stream c.args.to.now.stack) (layers_of (λ vtable. (g.dyn-1.0.entry vtable).1) c.args.to.now.chain) piece c.send_in_turn.new.net c.hear_behind.new.net c.hear_behind.result c.send_in_turn.new.from.sender (g.N.Sockets.net c.hear_behind.new.net).told c.hear_behind.new.to.receiver.ended (unread_of c.hear_behind.new.to.receiver.source) c.hear_behind.new.heard.items) c.in-Ok-Gone.ensures.kept c.hear_behind.ensures.rounded in
+    let hears = subst (λ z. GoesRound (λ vtable. (g.dyn-1.0.entry vtable).1) g.N.Sockets.Becomes z c.args.to.now c.args.deadline c.send_in_turn.new.net c.hear_behind.new.net (g.N.Sockets.net c.send_in_turn.new.net).told c.args.heard.now.items (λ x calls. HasGone x calls (waits c.send_in_turn.new.from.sender)) c.hear_behind.result c.send_in_turn.new.from.sender (g.N.Sockets.net c.hear_behind.new.net).told c.hear_behind.new.to.receiver c.hear_behind.new.heard.items) c.in-Ok-Gone.ensures.kept c.hear_behind.ensures.rounded in
     then_rounded g.N.Sockets.Becomes x calls (encoding_of (is_stream c.args.from.now.stack) (layers_of (λ vtable. (g.dyn-1.0.entry vtable).1) c.args.from.now.chain)) c.args.from.now.socket (is_stream c.args.to.now.stack) (layers_of (λ vtable. (g.dyn-1.0.entry vtable).1) c.args.to.now.chain) c.args.to.now.socket piece c.args.deadline c.args.net.now c.send_in_turn.new.net c.args.from.now.sender c.send_in_turn.new.from.sender (g.N.Sockets.net c.args.net.now).told (g.N.Sockets.net c.send_in_turn.new.net).told c.args.to.now.receiver.ended (unread_of c.args.to.now.receiver.source) c.args.heard.now.items c.args.enough ends kept stands (Ok out.Gone) h (λ more became. (g.met.N.Sockets.shows c.args.net.now c.send_in_turn.new.net more became).told) c.hear_behind.new.net (g.N.Sockets.net c.hear_behind.new.net).told c.hear_behind.new.to.receiver.ended (unread_of c.hear_behind.new.to.receiver.source) c.hear_behind.new.heard.items c.hear_behind.result g.met.N.Sockets.becomes_on
     (hears x (h.more ++ calls) piece ends (sent_kept g.N.Sockets.Becomes x calls (encoding_of (is_stream c.args.from.now.stack) (layers_of (λ vtable. (g.dyn-1.0.entry vtable).1) c.args.from.now.chain)) c.args.from.now.socket (is_stream c.args.to.now.stack) (layers_of (λ vtable. (g.dyn-1.0.entry vtable).1) c.args.to.now.chain) c.args.to.now.socket piece c.args.deadline c.args.net.now c.send_in_turn.new.net c.args.from.now.sender c.send_in_turn.new.from.sender (g.N.Sockets.net c.args.net.now).told (g.N.Sockets.net c.send_in_turn.new.net).told c.args.to.now.receiver.ended (unread_of c.args.to.now.receiver.source) c.args.heard.now.items c.args.enough ends kept stands (Ok out.Gone) h (λ more became. (g.met.N.Sockets.shows c.args.net.now c.send_in_turn.new.net more became).told) h.kept) h.out_so)
 
@@ -41,8 +39,7 @@ returns-in-Ok-Nothing-clause-rounded g c =
     λ x calls piece ends kept stands.
     let start = subst (λ u. IsToSend x calls (encoding_of (is_stream c.args.from.now.stack) (layers_of (λ vtable. (g.dyn-1.0.entry vtable).1) c.args.from.now.chain)) c.args.from.now.socket u c.args.deadline c.args.from.now.sender) (ap (λ k. until_if c.args.enough k c.args.deadline) (sym c.told.ensures) ∙ sym c.until_of-until.ensures.until) (to_send g.N.Sockets.Becomes x calls (encoding_of (is_stream c.args.from.now.stack) (layers_of (λ vtable. (g.dyn-1.0.entry vtable).1) c.args.from.now.chain)) c.args.from.now.socket (is_stream c.args.to.now.stack) (layers_of (λ vtable. (g.dyn-1.0.entry vtable).1) c.args.to.now.chain) c.args.to.now.socket piece c.args.deadline c.args.net.now c.send_in_turn.new.net c.args.from.now.sender c.send_in_turn.new.from.sender (g.N.Sockets.net c.args.net.now).told (g.N.Sockets.net c.send_in_turn.new.net).told c.args.to.now.receiver.ended (unread_of c.args.to.now.receiver.source) c.args.heard.now.items c.args.enough ends kept stands) in
     let h = subst (λ o. HasTurned g.N.Sockets.Becomes x calls (encoding_of (is_stream c.args.from.now.stack) (layers_of (λ vtable. (g.dyn-1.0.entry vtable).1) c.args.from.now.chain)) c.args.net.now c.send_in_turn.new.net (Ok o) c.send_in_turn.new.from.sender) c.in-Ok-Nothing.field-0-is (c.in-Ok-Nothing.ensures.turned x calls start) in
-    let hears = subst (λ z. (x : Ends) (calls : List Call) (piece : ℕ) → AreEnds x (encoding_of (is_stream z.stack) (layers_of (λ vtable. (g.dyn-1.0.entry vtable).1) z.chain)) z.socket (is_stream c.args.to.now.stack) (layers_of (λ vtable. (g.dyn-1.0.entry vtable).1) c.args.to.now.chain) c.args.to.now.socket piece c.args.deadline → AreKept x calls (encoding_of (is_stream z.stack) (layers_of (λ vtable. (g.dyn-1.0.entry vtable).1) z.chain)) (is_stream c.args.to.now.stack) (layers_of (λ vtable. (g.dyn-1.0.entry vtable).1) c.args.to.now.chain) piece c.send_in_turn.new.from.sender (g.N.Sockets.net c.send_in_turn.new.net).told c.args.to.now.receiver.ended (unread_of c.args.to.now.receiver.source) c.args.heard.now.items → IsLast x calls c.send_in_turn.new.from.sender c.args.heard.now.items c.args.enough →
-    HasRounded g.N.Sockets.Becomes x calls (encoding_of (is_stream z.stack) (layers_of (λ vtable. (g.dyn-1.0.entry vtable).1) z.chain)) (is_stream c.args.to.now.stack) (layers_of (λ vtable. (g.dyn-1.0.entry vtable).1) c.args.to.now.chain) piece c.send_in_turn.new.net c.hear_last.new.net c.hear_last.result c.send_in_turn.new.from.sender (g.N.Sockets.net c.hear_last.new.net).told c.hear_last.new.to.receiver.ended (unread_of c.hear_last.new.to.receiver.source) c.hear_last.new.heard.items) c.in-Ok-Nothing.ensures.kept c.hear_last.ensures.rounded in
+    let hears = subst (λ z. GoesRound (λ vtable. (g.dyn-1.0.entry vtable).1) g.N.Sockets.Becomes z c.args.to.now c.args.deadline c.send_in_turn.new.net c.hear_last.new.net (g.N.Sockets.net c.send_in_turn.new.net).told c.args.heard.now.items (λ x calls. IsLast x calls c.send_in_turn.new.from.sender c.args.heard.now.items c.args.enough) c.hear_last.result c.send_in_turn.new.from.sender (g.N.Sockets.net c.hear_last.new.net).told c.hear_last.new.to.receiver c.hear_last.new.heard.items) c.in-Ok-Nothing.ensures.kept c.hear_last.ensures.rounded in
     then_rounded g.N.Sockets.Becomes x calls (encoding_of (is_stream c.args.from.now.stack) (layers_of (λ vtable. (g.dyn-1.0.entry vtable).1) c.args.from.now.chain)) c.args.from.now.socket (is_stream c.args.to.now.stack) (layers_of (λ vtable. (g.dyn-1.0.entry vtable).1) c.args.to.now.chain) c.args.to.now.socket piece c.args.deadline c.args.net.now c.send_in_turn.new.net c.args.from.now.sender c.send_in_turn.new.from.sender (g.N.Sockets.net c.args.net.now).told (g.N.Sockets.net c.send_in_turn.new.net).told c.args.to.now.receiver.ended (unread_of c.args.to.now.receiver.source) c.args.heard.now.items c.args.enough ends kept stands (Ok out.Nothing) h (λ more became. (g.met.N.Sockets.shows c.args.net.now c.send_in_turn.new.net more became).told) c.hear_last.new.net (g.N.Sockets.net c.hear_last.new.net).told c.hear_last.new.to.receiver.ended (unread_of c.hear_last.new.to.receiver.source) c.hear_last.new.heard.items c.hear_last.result g.met.N.Sockets.becomes_on
     (hears x (h.more ++ calls) piece ends (sent_kept g.N.Sockets.Becomes x calls (encoding_of (is_stream c.args.from.now.stack) (layers_of (λ vtable. (g.dyn-1.0.entry vtable).1) c.args.from.now.chain)) c.args.from.now.socket (is_stream c.args.to.now.stack) (layers_of (λ vtable. (g.dyn-1.0.entry vtable).1) c.args.to.now.chain) c.args.to.now.socket piece c.args.deadline c.args.net.now c.send_in_turn.new.net c.args.from.now.sender c.send_in_turn.new.from.sender (g.N.Sockets.net c.args.net.now).told (g.N.Sockets.net c.send_in_turn.new.net).told c.args.to.now.receiver.ended (unread_of c.args.to.now.receiver.source) c.args.heard.now.items c.args.enough ends kept stands (Ok out.Nothing) h (λ more became. (g.met.N.Sockets.shows c.args.net.now c.send_in_turn.new.net more became).told) h.kept) (last_of g.N.Sockets.Becomes x calls (encoding_of (is_stream c.args.from.now.stack) (layers_of (λ vtable. (g.dyn-1.0.entry vtable).1) c.args.from.now.chain)) c.args.from.now.socket (is_stream c.args.to.now.stack) (layers_of (λ vtable. (g.dyn-1.0.entry vtable).1) c.args.to.now.chain) c.args.to.now.socket piece c.args.deadline c.args.net.now c.send_in_turn.new.net c.args.from.now.sender c.send_in_turn.new.from.sender (g.N.Sockets.net c.args.net.now).told (g.N.Sockets.net c.send_in_turn.new.net).told c.args.to.now.receiver.ended (unread_of c.args.to.now.receiver.source) c.args.heard.now.items c.args.enough ends kept stands (Ok out.Nothing) h (λ more became. (g.met.N.Sockets.shows c.args.net.now c.send_in_turn.new.net more became).told) h.out_so.0 h.out_so.1 h.out_so.2 h.out_so.3))
 
