@@ -1,5 +1,5 @@
 -- Rounds behind rounds.
-use Rattle.std.proofs.Common.{◌≡◌, ℕ, Bool, List, [], ◌++◌, subst}
+use Rattle.std.proofs.Common.{◌≡◌, ℕ, Bool, List, ◌++◌, subst}
 use Rattle.std.specs.Prelude.{Result, Ok, Err}
 use Rattle.taps_base.specs.declared.no_memory.NoMemory.{NoMemory}
 use Rattle.taps_framer.specs.Layers.{Layer}
@@ -23,10 +23,6 @@ pub record GoesOn {N : Type 0} (Becomes : N → List Call → N → Type 0) (x :
   pub becomes : Becomes before calls after
   pub kept : AreKept x calls e stream fs piece s told ended u ms
   pub stands : Stands x calls s ms flag
-
-pub goes_none : {N : Type 0} (Becomes : N → List Call → N → Type 0) (x : Ends) (e : Encoding) (stream : Bool) (fs : List Layer) (piece : ℕ) (a : N) (s : Sender) (told : ℕ) (ended : Bool) (u : Unread) (ms : List (List ℕ)) (flag : Bool) → Becomes a [] a →
-    AreKept x [] e stream fs piece s told ended u ms → Stands x [] s ms flag → GoesOn Becomes x e stream fs piece a a s told ended u ms flag
-goes_none Becomes x e stream fs piece a s told ended u ms flag became kept stands = record { calls = []; becomes = became; kept = kept; stands = stands }
 
 module _ {N : Type 0} (Becomes : N → List Call → N → Type 0) (x : Ends) (e : Encoding) (stream : Bool) (fs : List Layer) (piece : ℕ) (a b c : N) (s t : Sender) (told told2 : ℕ) (ended ended2 : Bool) (u u2 : Unread) (ms ms2 : List (List ℕ)) (flag : Bool)
     (on : (a b c : N) (g h : List Call) → Becomes a g b → Becomes b h c → Becomes a (h ++ g) c) (k : GoesOn Becomes x e stream fs piece a b s told ended u ms flag) where
