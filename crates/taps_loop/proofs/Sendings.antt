@@ -359,7 +359,7 @@ module _ {N : Type 0} (Becomes : N → List Call → N → Type 0) (x : Ends) (c
 
   expired_turned : (number : ℕ) (more : List Call) → Becomes a more b → IsPushed x.from.encoding x.from.socket until s (pushed.Expired number) more t → Turned (Ok out.Passed)
   expired_turned number more became (same, turn, first_one, taken) =
-      still_turned more (Ok out.Passed) taken.nothing_called became (ap (λ (v : Sender). v.sent) taken.kept) (start.kept ∙ sym same) (refl, λ w. start.waits_for (expires_waits x.from.encoding s number turn))
+      still_turned more (Ok out.Passed) taken.nothing_called became (ap (λ (v : Sender). v.sent) taken.kept) (start.kept ∙ sym same) (refl, λ w. start.waits_for (turn_waits x.from.encoding s (expires number) (λ e. cc) turn))
 
   refused_turned : (number layer : ℕ) (more : List Call) → Becomes a more b → IsPushed x.from.encoding x.from.socket until s (pushed.NotSpeakable number layer) more t → Turned (Ok (out.Over (outcome.NotSpeakable 0 number layer)))
   refused_turned number layer more became (stands, turn, first_one, taken) =

@@ -27,48 +27,58 @@ hear_last-requires-clause-asks g c =
 
 pub returns-in-Ok-Gone-clause-rounded : goal.returns-in-Ok-Gone-clause-rounded
 returns-in-Ok-Gone-clause-rounded g c =
+    let from_encoding = encoding_of (is_stream c.args.from.now.stack) (layers_of (λ vtable. (g.dyn-1.0.entry vtable).1) c.args.from.now.chain) in
+    let to_layers = layers_of (λ vtable. (g.dyn-1.0.entry vtable).1) c.args.to.now.chain in
     λ x calls piece ends kept stands.
-    let start = subst (λ u. IsToSend x calls (encoding_of (is_stream c.args.from.now.stack) (layers_of (λ vtable. (g.dyn-1.0.entry vtable).1) c.args.from.now.chain)) c.args.from.now.socket u c.args.deadline c.args.from.now.sender) (ap (λ k. until_if c.args.enough k c.args.deadline) (sym c.told.ensures) ∙ sym c.until_of-until.ensures.until) (to_send g.N.Sockets.Becomes x calls (encoding_of (is_stream c.args.from.now.stack) (layers_of (λ vtable. (g.dyn-1.0.entry vtable).1) c.args.from.now.chain)) c.args.from.now.socket (is_stream c.args.to.now.stack) (layers_of (λ vtable. (g.dyn-1.0.entry vtable).1) c.args.to.now.chain) c.args.to.now.socket piece c.args.deadline c.args.net.now c.send_in_turn.new.net c.args.from.now.sender c.send_in_turn.new.from.sender (g.N.Sockets.net c.args.net.now).told (g.N.Sockets.net c.send_in_turn.new.net).told c.args.to.now.receiver.ended (unread_of c.args.to.now.receiver.source) c.args.heard.now.items c.args.enough ends kept stands) in
-    let h = subst (λ o. HasTurned g.N.Sockets.Becomes x calls (encoding_of (is_stream c.args.from.now.stack) (layers_of (λ vtable. (g.dyn-1.0.entry vtable).1) c.args.from.now.chain)) c.args.net.now c.send_in_turn.new.net (Ok o) c.send_in_turn.new.from.sender) c.in-Ok-Gone.field-0-is (c.in-Ok-Gone.ensures.turned x calls start) in
+    let start = subst (λ u. IsToSend x calls from_encoding c.args.from.now.socket u c.args.deadline c.args.from.now.sender) (ap (λ k. until_if c.args.enough k c.args.deadline) (sym c.told.ensures) ∙ sym c.until_of-until.ensures.until) (to_send g.N.Sockets.Becomes x calls from_encoding c.args.from.now.socket (is_stream c.args.to.now.stack) to_layers c.args.to.now.socket piece c.args.deadline c.args.net.now c.send_in_turn.new.net c.args.from.now.sender c.send_in_turn.new.from.sender (g.N.Sockets.net c.args.net.now).told (g.N.Sockets.net c.send_in_turn.new.net).told c.args.to.now.receiver.ended (unread_of c.args.to.now.receiver.source) c.args.heard.now.items c.args.enough ends kept stands) in
+    let h = subst (λ o. HasTurned g.N.Sockets.Becomes x calls from_encoding c.args.net.now c.send_in_turn.new.net (Ok o) c.send_in_turn.new.from.sender) c.in-Ok-Gone.field-0-is (c.in-Ok-Gone.ensures.turned x calls start) in
     let hears = subst (λ z. GoesRound (λ vtable. (g.dyn-1.0.entry vtable).1) g.N.Sockets.Becomes z c.args.to.now c.args.deadline c.send_in_turn.new.net c.hear_behind.new.net (g.N.Sockets.net c.send_in_turn.new.net).told c.args.heard.now.items (λ x calls. HasGone x calls (waits c.send_in_turn.new.from.sender)) c.hear_behind.result c.send_in_turn.new.from.sender (g.N.Sockets.net c.hear_behind.new.net).told c.hear_behind.new.to.receiver c.hear_behind.new.heard.items) c.in-Ok-Gone.ensures.kept c.hear_behind.ensures.rounded in
-    then_rounded g.N.Sockets.Becomes x calls (encoding_of (is_stream c.args.from.now.stack) (layers_of (λ vtable. (g.dyn-1.0.entry vtable).1) c.args.from.now.chain)) c.args.from.now.socket (is_stream c.args.to.now.stack) (layers_of (λ vtable. (g.dyn-1.0.entry vtable).1) c.args.to.now.chain) c.args.to.now.socket piece c.args.deadline c.args.net.now c.send_in_turn.new.net c.args.from.now.sender c.send_in_turn.new.from.sender (g.N.Sockets.net c.args.net.now).told (g.N.Sockets.net c.send_in_turn.new.net).told c.args.to.now.receiver.ended (unread_of c.args.to.now.receiver.source) c.args.heard.now.items c.args.enough ends kept stands (Ok out.Gone) h (λ more became. (g.met.N.Sockets.shows c.args.net.now c.send_in_turn.new.net more became).told) c.hear_behind.new.net (g.N.Sockets.net c.hear_behind.new.net).told c.hear_behind.new.to.receiver.ended (unread_of c.hear_behind.new.to.receiver.source) c.hear_behind.new.heard.items c.hear_behind.result g.met.N.Sockets.becomes_on
-    (hears x (h.more ++ calls) piece ends (sent_kept g.N.Sockets.Becomes x calls (encoding_of (is_stream c.args.from.now.stack) (layers_of (λ vtable. (g.dyn-1.0.entry vtable).1) c.args.from.now.chain)) c.args.from.now.socket (is_stream c.args.to.now.stack) (layers_of (λ vtable. (g.dyn-1.0.entry vtable).1) c.args.to.now.chain) c.args.to.now.socket piece c.args.deadline c.args.net.now c.send_in_turn.new.net c.args.from.now.sender c.send_in_turn.new.from.sender (g.N.Sockets.net c.args.net.now).told (g.N.Sockets.net c.send_in_turn.new.net).told c.args.to.now.receiver.ended (unread_of c.args.to.now.receiver.source) c.args.heard.now.items c.args.enough ends kept stands (Ok out.Gone) h (λ more became. (g.met.N.Sockets.shows c.args.net.now c.send_in_turn.new.net more became).told) h.kept) h.out_so)
+    then_rounded g.N.Sockets.Becomes x calls from_encoding c.args.from.now.socket (is_stream c.args.to.now.stack) to_layers c.args.to.now.socket piece c.args.deadline c.args.net.now c.send_in_turn.new.net c.args.from.now.sender c.send_in_turn.new.from.sender (g.N.Sockets.net c.args.net.now).told (g.N.Sockets.net c.send_in_turn.new.net).told c.args.to.now.receiver.ended (unread_of c.args.to.now.receiver.source) c.args.heard.now.items c.args.enough ends kept stands (Ok out.Gone) h (λ more became. (g.met.N.Sockets.shows c.args.net.now c.send_in_turn.new.net more became).told) c.hear_behind.new.net (g.N.Sockets.net c.hear_behind.new.net).told c.hear_behind.new.to.receiver.ended (unread_of c.hear_behind.new.to.receiver.source) c.hear_behind.new.heard.items c.hear_behind.result g.met.N.Sockets.becomes_on
+    (hears x (h.more ++ calls) piece ends (sent_kept g.N.Sockets.Becomes x calls from_encoding c.args.from.now.socket (is_stream c.args.to.now.stack) to_layers c.args.to.now.socket piece c.args.deadline c.args.net.now c.send_in_turn.new.net c.args.from.now.sender c.send_in_turn.new.from.sender (g.N.Sockets.net c.args.net.now).told (g.N.Sockets.net c.send_in_turn.new.net).told c.args.to.now.receiver.ended (unread_of c.args.to.now.receiver.source) c.args.heard.now.items c.args.enough ends kept stands (Ok out.Gone) h (λ more became. (g.met.N.Sockets.shows c.args.net.now c.send_in_turn.new.net more became).told) h.kept) h.out_so)
 
 pub returns-in-Ok-Nothing-clause-rounded : goal.returns-in-Ok-Nothing-clause-rounded
 returns-in-Ok-Nothing-clause-rounded g c =
+    let from_encoding = encoding_of (is_stream c.args.from.now.stack) (layers_of (λ vtable. (g.dyn-1.0.entry vtable).1) c.args.from.now.chain) in
+    let to_layers = layers_of (λ vtable. (g.dyn-1.0.entry vtable).1) c.args.to.now.chain in
     λ x calls piece ends kept stands.
-    let start = subst (λ u. IsToSend x calls (encoding_of (is_stream c.args.from.now.stack) (layers_of (λ vtable. (g.dyn-1.0.entry vtable).1) c.args.from.now.chain)) c.args.from.now.socket u c.args.deadline c.args.from.now.sender) (ap (λ k. until_if c.args.enough k c.args.deadline) (sym c.told.ensures) ∙ sym c.until_of-until.ensures.until) (to_send g.N.Sockets.Becomes x calls (encoding_of (is_stream c.args.from.now.stack) (layers_of (λ vtable. (g.dyn-1.0.entry vtable).1) c.args.from.now.chain)) c.args.from.now.socket (is_stream c.args.to.now.stack) (layers_of (λ vtable. (g.dyn-1.0.entry vtable).1) c.args.to.now.chain) c.args.to.now.socket piece c.args.deadline c.args.net.now c.send_in_turn.new.net c.args.from.now.sender c.send_in_turn.new.from.sender (g.N.Sockets.net c.args.net.now).told (g.N.Sockets.net c.send_in_turn.new.net).told c.args.to.now.receiver.ended (unread_of c.args.to.now.receiver.source) c.args.heard.now.items c.args.enough ends kept stands) in
-    let h = subst (λ o. HasTurned g.N.Sockets.Becomes x calls (encoding_of (is_stream c.args.from.now.stack) (layers_of (λ vtable. (g.dyn-1.0.entry vtable).1) c.args.from.now.chain)) c.args.net.now c.send_in_turn.new.net (Ok o) c.send_in_turn.new.from.sender) c.in-Ok-Nothing.field-0-is (c.in-Ok-Nothing.ensures.turned x calls start) in
+    let start = subst (λ u. IsToSend x calls from_encoding c.args.from.now.socket u c.args.deadline c.args.from.now.sender) (ap (λ k. until_if c.args.enough k c.args.deadline) (sym c.told.ensures) ∙ sym c.until_of-until.ensures.until) (to_send g.N.Sockets.Becomes x calls from_encoding c.args.from.now.socket (is_stream c.args.to.now.stack) to_layers c.args.to.now.socket piece c.args.deadline c.args.net.now c.send_in_turn.new.net c.args.from.now.sender c.send_in_turn.new.from.sender (g.N.Sockets.net c.args.net.now).told (g.N.Sockets.net c.send_in_turn.new.net).told c.args.to.now.receiver.ended (unread_of c.args.to.now.receiver.source) c.args.heard.now.items c.args.enough ends kept stands) in
+    let h = subst (λ o. HasTurned g.N.Sockets.Becomes x calls from_encoding c.args.net.now c.send_in_turn.new.net (Ok o) c.send_in_turn.new.from.sender) c.in-Ok-Nothing.field-0-is (c.in-Ok-Nothing.ensures.turned x calls start) in
     let hears = subst (λ z. GoesRound (λ vtable. (g.dyn-1.0.entry vtable).1) g.N.Sockets.Becomes z c.args.to.now c.args.deadline c.send_in_turn.new.net c.hear_last.new.net (g.N.Sockets.net c.send_in_turn.new.net).told c.args.heard.now.items (λ x calls. IsLast x calls c.send_in_turn.new.from.sender c.args.heard.now.items c.args.enough) c.hear_last.result c.send_in_turn.new.from.sender (g.N.Sockets.net c.hear_last.new.net).told c.hear_last.new.to.receiver c.hear_last.new.heard.items) c.in-Ok-Nothing.ensures.kept c.hear_last.ensures.rounded in
-    then_rounded g.N.Sockets.Becomes x calls (encoding_of (is_stream c.args.from.now.stack) (layers_of (λ vtable. (g.dyn-1.0.entry vtable).1) c.args.from.now.chain)) c.args.from.now.socket (is_stream c.args.to.now.stack) (layers_of (λ vtable. (g.dyn-1.0.entry vtable).1) c.args.to.now.chain) c.args.to.now.socket piece c.args.deadline c.args.net.now c.send_in_turn.new.net c.args.from.now.sender c.send_in_turn.new.from.sender (g.N.Sockets.net c.args.net.now).told (g.N.Sockets.net c.send_in_turn.new.net).told c.args.to.now.receiver.ended (unread_of c.args.to.now.receiver.source) c.args.heard.now.items c.args.enough ends kept stands (Ok out.Nothing) h (λ more became. (g.met.N.Sockets.shows c.args.net.now c.send_in_turn.new.net more became).told) c.hear_last.new.net (g.N.Sockets.net c.hear_last.new.net).told c.hear_last.new.to.receiver.ended (unread_of c.hear_last.new.to.receiver.source) c.hear_last.new.heard.items c.hear_last.result g.met.N.Sockets.becomes_on
-    (hears x (h.more ++ calls) piece ends (sent_kept g.N.Sockets.Becomes x calls (encoding_of (is_stream c.args.from.now.stack) (layers_of (λ vtable. (g.dyn-1.0.entry vtable).1) c.args.from.now.chain)) c.args.from.now.socket (is_stream c.args.to.now.stack) (layers_of (λ vtable. (g.dyn-1.0.entry vtable).1) c.args.to.now.chain) c.args.to.now.socket piece c.args.deadline c.args.net.now c.send_in_turn.new.net c.args.from.now.sender c.send_in_turn.new.from.sender (g.N.Sockets.net c.args.net.now).told (g.N.Sockets.net c.send_in_turn.new.net).told c.args.to.now.receiver.ended (unread_of c.args.to.now.receiver.source) c.args.heard.now.items c.args.enough ends kept stands (Ok out.Nothing) h (λ more became. (g.met.N.Sockets.shows c.args.net.now c.send_in_turn.new.net more became).told) h.kept) (last_of g.N.Sockets.Becomes x calls (encoding_of (is_stream c.args.from.now.stack) (layers_of (λ vtable. (g.dyn-1.0.entry vtable).1) c.args.from.now.chain)) c.args.from.now.socket (is_stream c.args.to.now.stack) (layers_of (λ vtable. (g.dyn-1.0.entry vtable).1) c.args.to.now.chain) c.args.to.now.socket piece c.args.deadline c.args.net.now c.send_in_turn.new.net c.args.from.now.sender c.send_in_turn.new.from.sender (g.N.Sockets.net c.args.net.now).told (g.N.Sockets.net c.send_in_turn.new.net).told c.args.to.now.receiver.ended (unread_of c.args.to.now.receiver.source) c.args.heard.now.items c.args.enough ends kept stands (Ok out.Nothing) h (λ more became. (g.met.N.Sockets.shows c.args.net.now c.send_in_turn.new.net more became).told) h.out_so.0 h.out_so.1 h.out_so.2 h.out_so.3))
+    then_rounded g.N.Sockets.Becomes x calls from_encoding c.args.from.now.socket (is_stream c.args.to.now.stack) to_layers c.args.to.now.socket piece c.args.deadline c.args.net.now c.send_in_turn.new.net c.args.from.now.sender c.send_in_turn.new.from.sender (g.N.Sockets.net c.args.net.now).told (g.N.Sockets.net c.send_in_turn.new.net).told c.args.to.now.receiver.ended (unread_of c.args.to.now.receiver.source) c.args.heard.now.items c.args.enough ends kept stands (Ok out.Nothing) h (λ more became. (g.met.N.Sockets.shows c.args.net.now c.send_in_turn.new.net more became).told) c.hear_last.new.net (g.N.Sockets.net c.hear_last.new.net).told c.hear_last.new.to.receiver.ended (unread_of c.hear_last.new.to.receiver.source) c.hear_last.new.heard.items c.hear_last.result g.met.N.Sockets.becomes_on
+    (hears x (h.more ++ calls) piece ends (sent_kept g.N.Sockets.Becomes x calls from_encoding c.args.from.now.socket (is_stream c.args.to.now.stack) to_layers c.args.to.now.socket piece c.args.deadline c.args.net.now c.send_in_turn.new.net c.args.from.now.sender c.send_in_turn.new.from.sender (g.N.Sockets.net c.args.net.now).told (g.N.Sockets.net c.send_in_turn.new.net).told c.args.to.now.receiver.ended (unread_of c.args.to.now.receiver.source) c.args.heard.now.items c.args.enough ends kept stands (Ok out.Nothing) h (λ more became. (g.met.N.Sockets.shows c.args.net.now c.send_in_turn.new.net more became).told) h.kept) (last_of g.N.Sockets.Becomes x calls from_encoding c.args.from.now.socket (is_stream c.args.to.now.stack) to_layers c.args.to.now.socket piece c.args.deadline c.args.net.now c.send_in_turn.new.net c.args.from.now.sender c.send_in_turn.new.from.sender (g.N.Sockets.net c.args.net.now).told (g.N.Sockets.net c.send_in_turn.new.net).told c.args.to.now.receiver.ended (unread_of c.args.to.now.receiver.source) c.args.heard.now.items c.args.enough ends kept stands (Ok out.Nothing) h (λ more became. (g.met.N.Sockets.shows c.args.net.now c.send_in_turn.new.net more became).told) h.out_so.0 h.out_so.1 h.out_so.2 h.out_so.3))
 
 pub returns-in-Ok-Passed-clause-rounded : goal.returns-in-Ok-Passed-clause-rounded
 returns-in-Ok-Passed-clause-rounded g c =
+    let from_encoding = encoding_of (is_stream c.args.from.now.stack) (layers_of (λ vtable. (g.dyn-1.0.entry vtable).1) c.args.from.now.chain) in
+    let to_layers = layers_of (λ vtable. (g.dyn-1.0.entry vtable).1) c.args.to.now.chain in
     λ x calls piece ends kept stands.
-    let start = subst (λ u. IsToSend x calls (encoding_of (is_stream c.args.from.now.stack) (layers_of (λ vtable. (g.dyn-1.0.entry vtable).1) c.args.from.now.chain)) c.args.from.now.socket u c.args.deadline c.args.from.now.sender) (ap (λ k. until_if c.args.enough k c.args.deadline) (sym c.told.ensures) ∙ sym c.until_of-until.ensures.until) (to_send g.N.Sockets.Becomes x calls (encoding_of (is_stream c.args.from.now.stack) (layers_of (λ vtable. (g.dyn-1.0.entry vtable).1) c.args.from.now.chain)) c.args.from.now.socket (is_stream c.args.to.now.stack) (layers_of (λ vtable. (g.dyn-1.0.entry vtable).1) c.args.to.now.chain) c.args.to.now.socket piece c.args.deadline c.args.net.now c.send_in_turn.new.net c.args.from.now.sender c.send_in_turn.new.from.sender (g.N.Sockets.net c.args.net.now).told (g.N.Sockets.net c.send_in_turn.new.net).told c.args.to.now.receiver.ended (unread_of c.args.to.now.receiver.source) c.args.heard.now.items c.args.enough ends kept stands) in
-    let h = subst (λ o. HasTurned g.N.Sockets.Becomes x calls (encoding_of (is_stream c.args.from.now.stack) (layers_of (λ vtable. (g.dyn-1.0.entry vtable).1) c.args.from.now.chain)) c.args.net.now c.send_in_turn.new.net (Ok o) c.send_in_turn.new.from.sender) c.in-Ok-Passed.field-0-is (c.in-Ok-Passed.ensures.turned x calls start) in
+    let start = subst (λ u. IsToSend x calls from_encoding c.args.from.now.socket u c.args.deadline c.args.from.now.sender) (ap (λ k. until_if c.args.enough k c.args.deadline) (sym c.told.ensures) ∙ sym c.until_of-until.ensures.until) (to_send g.N.Sockets.Becomes x calls from_encoding c.args.from.now.socket (is_stream c.args.to.now.stack) to_layers c.args.to.now.socket piece c.args.deadline c.args.net.now c.send_in_turn.new.net c.args.from.now.sender c.send_in_turn.new.from.sender (g.N.Sockets.net c.args.net.now).told (g.N.Sockets.net c.send_in_turn.new.net).told c.args.to.now.receiver.ended (unread_of c.args.to.now.receiver.source) c.args.heard.now.items c.args.enough ends kept stands) in
+    let h = subst (λ o. HasTurned g.N.Sockets.Becomes x calls from_encoding c.args.net.now c.send_in_turn.new.net (Ok o) c.send_in_turn.new.from.sender) c.in-Ok-Passed.field-0-is (c.in-Ok-Passed.ensures.turned x calls start) in
     let more = subst (λ o. IsFurther c.until_of-until.result c.args.deadline (g.N.Sockets.net c.send_in_turn.new.net).told (Ok o) c.args.from.now.sender c.send_in_turn.new.from.sender) c.in-Ok-Passed.field-0-is c.in-Ok-Passed.ensures.further in
-    again_rounded g.N.Sockets.Becomes x calls (encoding_of (is_stream c.args.from.now.stack) (layers_of (λ vtable. (g.dyn-1.0.entry vtable).1) c.args.from.now.chain)) c.args.from.now.socket (is_stream c.args.to.now.stack) (layers_of (λ vtable. (g.dyn-1.0.entry vtable).1) c.args.to.now.chain) c.args.to.now.socket piece c.args.deadline c.args.net.now c.send_in_turn.new.net c.args.from.now.sender c.send_in_turn.new.from.sender (g.N.Sockets.net c.args.net.now).told (g.N.Sockets.net c.send_in_turn.new.net).told c.args.to.now.receiver.ended (unread_of c.args.to.now.receiver.source) c.args.heard.now.items c.args.enough ends kept stands (Ok out.Passed) h (λ more became. (g.met.N.Sockets.shows c.args.net.now c.send_in_turn.new.net more became).told) h.kept (again_of g.N.Sockets.Becomes x calls (encoding_of (is_stream c.args.from.now.stack) (layers_of (λ vtable. (g.dyn-1.0.entry vtable).1) c.args.from.now.chain)) c.args.from.now.socket (is_stream c.args.to.now.stack) (layers_of (λ vtable. (g.dyn-1.0.entry vtable).1) c.args.to.now.chain) c.args.to.now.socket piece c.args.deadline c.args.net.now c.send_in_turn.new.net c.args.from.now.sender c.send_in_turn.new.from.sender (g.N.Sockets.net c.args.net.now).told (g.N.Sockets.net c.send_in_turn.new.net).told c.args.to.now.receiver.ended (unread_of c.args.to.now.receiver.source) c.args.heard.now.items c.args.enough ends kept stands (Ok out.Passed) h (λ more became. (g.met.N.Sockets.shows c.args.net.now c.send_in_turn.new.net more became).told) h.out_so.0 more.2 h.out_so.1)
+    again_rounded g.N.Sockets.Becomes x calls from_encoding c.args.from.now.socket (is_stream c.args.to.now.stack) to_layers c.args.to.now.socket piece c.args.deadline c.args.net.now c.send_in_turn.new.net c.args.from.now.sender c.send_in_turn.new.from.sender (g.N.Sockets.net c.args.net.now).told (g.N.Sockets.net c.send_in_turn.new.net).told c.args.to.now.receiver.ended (unread_of c.args.to.now.receiver.source) c.args.heard.now.items c.args.enough ends kept stands (Ok out.Passed) h (λ more became. (g.met.N.Sockets.shows c.args.net.now c.send_in_turn.new.net more became).told) h.kept (again_of g.N.Sockets.Becomes x calls from_encoding c.args.from.now.socket (is_stream c.args.to.now.stack) to_layers c.args.to.now.socket piece c.args.deadline c.args.net.now c.send_in_turn.new.net c.args.from.now.sender c.send_in_turn.new.from.sender (g.N.Sockets.net c.args.net.now).told (g.N.Sockets.net c.send_in_turn.new.net).told c.args.to.now.receiver.ended (unread_of c.args.to.now.receiver.source) c.args.heard.now.items c.args.enough ends kept stands (Ok out.Passed) h (λ more became. (g.met.N.Sockets.shows c.args.net.now c.send_in_turn.new.net more became).told) h.out_so.0 more.2 h.out_so.1)
 
 pub returns-in-Ok-Over-clause-rounded : goal.returns-in-Ok-Over-clause-rounded
 returns-in-Ok-Over-clause-rounded g c =
+    let from_encoding = encoding_of (is_stream c.args.from.now.stack) (layers_of (λ vtable. (g.dyn-1.0.entry vtable).1) c.args.from.now.chain) in
+    let to_layers = layers_of (λ vtable. (g.dyn-1.0.entry vtable).1) c.args.to.now.chain in
     λ x calls piece ends kept stands.
-    let start = subst (λ u. IsToSend x calls (encoding_of (is_stream c.args.from.now.stack) (layers_of (λ vtable. (g.dyn-1.0.entry vtable).1) c.args.from.now.chain)) c.args.from.now.socket u c.args.deadline c.args.from.now.sender) (ap (λ k. until_if c.args.enough k c.args.deadline) (sym c.told.ensures) ∙ sym c.until_of-until.ensures.until) (to_send g.N.Sockets.Becomes x calls (encoding_of (is_stream c.args.from.now.stack) (layers_of (λ vtable. (g.dyn-1.0.entry vtable).1) c.args.from.now.chain)) c.args.from.now.socket (is_stream c.args.to.now.stack) (layers_of (λ vtable. (g.dyn-1.0.entry vtable).1) c.args.to.now.chain) c.args.to.now.socket piece c.args.deadline c.args.net.now c.send_in_turn.new.net c.args.from.now.sender c.send_in_turn.new.from.sender (g.N.Sockets.net c.args.net.now).told (g.N.Sockets.net c.send_in_turn.new.net).told c.args.to.now.receiver.ended (unread_of c.args.to.now.receiver.source) c.args.heard.now.items c.args.enough ends kept stands) in
-    let h = subst (λ o. HasTurned g.N.Sockets.Becomes x calls (encoding_of (is_stream c.args.from.now.stack) (layers_of (λ vtable. (g.dyn-1.0.entry vtable).1) c.args.from.now.chain)) c.args.net.now c.send_in_turn.new.net (Ok o) c.send_in_turn.new.from.sender) c.in-Ok-Over.field-0-is (c.in-Ok-Over.ensures.turned x calls start) in
+    let start = subst (λ u. IsToSend x calls from_encoding c.args.from.now.socket u c.args.deadline c.args.from.now.sender) (ap (λ k. until_if c.args.enough k c.args.deadline) (sym c.told.ensures) ∙ sym c.until_of-until.ensures.until) (to_send g.N.Sockets.Becomes x calls from_encoding c.args.from.now.socket (is_stream c.args.to.now.stack) to_layers c.args.to.now.socket piece c.args.deadline c.args.net.now c.send_in_turn.new.net c.args.from.now.sender c.send_in_turn.new.from.sender (g.N.Sockets.net c.args.net.now).told (g.N.Sockets.net c.send_in_turn.new.net).told c.args.to.now.receiver.ended (unread_of c.args.to.now.receiver.source) c.args.heard.now.items c.args.enough ends kept stands) in
+    let h = subst (λ o. HasTurned g.N.Sockets.Becomes x calls from_encoding c.args.net.now c.send_in_turn.new.net (Ok o) c.send_in_turn.new.from.sender) c.in-Ok-Over.field-0-is (c.in-Ok-Over.ensures.turned x calls start) in
     let waited = subst (λ o. IsFurther c.until_of-until.result c.args.deadline (g.N.Sockets.net c.send_in_turn.new.net).told (Ok o) c.args.from.now.sender c.send_in_turn.new.from.sender) c.in-Ok-Over.field-0-is c.in-Ok-Over.ensures.further in
     let o = c.in-Ok-Over.outcome in
     let count : c.send_in_turn.new.from.sender.sent + 1 ≡ c.sent.result + 1 = ap (λ k. k + 1) (sym c.sent.ensures) in
-    subst (λ ms. HasRounded g.N.Sockets.Becomes x calls (encoding_of (is_stream c.args.from.now.stack) (layers_of (λ vtable. (g.dyn-1.0.entry vtable).1) c.args.from.now.chain)) (is_stream c.args.to.now.stack) (layers_of (λ vtable. (g.dyn-1.0.entry vtable).1) c.args.to.now.chain) piece c.args.net.now c.send_in_turn.new.net (Ok (round.Over o)) c.send_in_turn.new.from.sender (g.N.Sockets.net c.send_in_turn.new.net).told c.args.to.now.receiver.ended (unread_of c.args.to.now.receiver.source) ms)
+    subst (λ ms. HasRounded g.N.Sockets.Becomes x calls from_encoding (is_stream c.args.to.now.stack) to_layers piece c.args.net.now c.send_in_turn.new.net (Ok (round.Over o)) c.send_in_turn.new.from.sender (g.N.Sockets.net c.send_in_turn.new.net).told c.args.to.now.receiver.ended (unread_of c.args.to.now.receiver.source) ms)
     (ap (λ k. take k c.args.heard.now.items) count ∙ sym c.truncate.ensures.items)
-    (over_rounded g.N.Sockets.Becomes x calls (encoding_of (is_stream c.args.from.now.stack) (layers_of (λ vtable. (g.dyn-1.0.entry vtable).1) c.args.from.now.chain)) c.args.from.now.socket (is_stream c.args.to.now.stack) (layers_of (λ vtable. (g.dyn-1.0.entry vtable).1) c.args.to.now.chain) c.args.to.now.socket piece c.args.deadline c.args.net.now c.send_in_turn.new.net c.args.from.now.sender c.send_in_turn.new.from.sender (g.N.Sockets.net c.args.net.now).told (g.N.Sockets.net c.send_in_turn.new.net).told c.args.to.now.receiver.ended (unread_of c.args.to.now.receiver.source) c.args.heard.now.items c.args.enough ends kept stands (Ok (out.Over o)) h (λ more became. (g.met.N.Sockets.shows c.args.net.now c.send_in_turn.new.net more became).told) o (over_of g.N.Sockets.Becomes x calls (encoding_of (is_stream c.args.from.now.stack) (layers_of (λ vtable. (g.dyn-1.0.entry vtable).1) c.args.from.now.chain)) c.args.from.now.socket (is_stream c.args.to.now.stack) (layers_of (λ vtable. (g.dyn-1.0.entry vtable).1) c.args.to.now.chain) c.args.to.now.socket piece c.args.deadline c.args.net.now c.send_in_turn.new.net c.args.from.now.sender c.send_in_turn.new.from.sender (g.N.Sockets.net c.args.net.now).told (g.N.Sockets.net c.send_in_turn.new.net).told c.args.to.now.receiver.ended (unread_of c.args.to.now.receiver.source) c.args.heard.now.items c.args.enough ends kept stands (Ok (out.Over o)) h (λ more became. (g.met.N.Sockets.shows c.args.net.now c.send_in_turn.new.net more became).told) o waited h.out_so.0 h.out_so.1 h.out_so.2))
+    (over_rounded g.N.Sockets.Becomes x calls from_encoding c.args.from.now.socket (is_stream c.args.to.now.stack) to_layers c.args.to.now.socket piece c.args.deadline c.args.net.now c.send_in_turn.new.net c.args.from.now.sender c.send_in_turn.new.from.sender (g.N.Sockets.net c.args.net.now).told (g.N.Sockets.net c.send_in_turn.new.net).told c.args.to.now.receiver.ended (unread_of c.args.to.now.receiver.source) c.args.heard.now.items c.args.enough ends kept stands (Ok (out.Over o)) h (λ more became. (g.met.N.Sockets.shows c.args.net.now c.send_in_turn.new.net more became).told) o (over_of g.N.Sockets.Becomes x calls from_encoding c.args.from.now.socket (is_stream c.args.to.now.stack) to_layers c.args.to.now.socket piece c.args.deadline c.args.net.now c.send_in_turn.new.net c.args.from.now.sender c.send_in_turn.new.from.sender (g.N.Sockets.net c.args.net.now).told (g.N.Sockets.net c.send_in_turn.new.net).told c.args.to.now.receiver.ended (unread_of c.args.to.now.receiver.source) c.args.heard.now.items c.args.enough ends kept stands (Ok (out.Over o)) h (λ more became. (g.met.N.Sockets.shows c.args.net.now c.send_in_turn.new.net more became).told) o waited h.out_so.0 h.out_so.1 h.out_so.2))
 
 pub returns-in-Err-clause-rounded : goal.returns-in-Err-clause-rounded
 returns-in-Err-clause-rounded g c =
+    let from_encoding = encoding_of (is_stream c.args.from.now.stack) (layers_of (λ vtable. (g.dyn-1.0.entry vtable).1) c.args.from.now.chain) in
+    let to_layers = layers_of (λ vtable. (g.dyn-1.0.entry vtable).1) c.args.to.now.chain in
     λ x calls piece ends kept stands.
-    let start = subst (λ u. IsToSend x calls (encoding_of (is_stream c.args.from.now.stack) (layers_of (λ vtable. (g.dyn-1.0.entry vtable).1) c.args.from.now.chain)) c.args.from.now.socket u c.args.deadline c.args.from.now.sender) (ap (λ k. until_if c.args.enough k c.args.deadline) (sym c.told.ensures) ∙ sym c.until_of-until.ensures.until) (to_send g.N.Sockets.Becomes x calls (encoding_of (is_stream c.args.from.now.stack) (layers_of (λ vtable. (g.dyn-1.0.entry vtable).1) c.args.from.now.chain)) c.args.from.now.socket (is_stream c.args.to.now.stack) (layers_of (λ vtable. (g.dyn-1.0.entry vtable).1) c.args.to.now.chain) c.args.to.now.socket piece c.args.deadline c.args.net.now c.send_in_turn.new.net c.args.from.now.sender c.send_in_turn.new.from.sender (g.N.Sockets.net c.args.net.now).told (g.N.Sockets.net c.send_in_turn.new.net).told c.args.to.now.receiver.ended (unread_of c.args.to.now.receiver.source) c.args.heard.now.items c.args.enough ends kept stands) in
+    let start = subst (λ u. IsToSend x calls from_encoding c.args.from.now.socket u c.args.deadline c.args.from.now.sender) (ap (λ k. until_if c.args.enough k c.args.deadline) (sym c.told.ensures) ∙ sym c.until_of-until.ensures.until) (to_send g.N.Sockets.Becomes x calls from_encoding c.args.from.now.socket (is_stream c.args.to.now.stack) to_layers c.args.to.now.socket piece c.args.deadline c.args.net.now c.send_in_turn.new.net c.args.from.now.sender c.send_in_turn.new.from.sender (g.N.Sockets.net c.args.net.now).told (g.N.Sockets.net c.send_in_turn.new.net).told c.args.to.now.receiver.ended (unread_of c.args.to.now.receiver.source) c.args.heard.now.items c.args.enough ends kept stands) in
     let h = c.in-Err.ensures.turned x calls start in
-    memory_rounded g.N.Sockets.Becomes x calls (encoding_of (is_stream c.args.from.now.stack) (layers_of (λ vtable. (g.dyn-1.0.entry vtable).1) c.args.from.now.chain)) c.args.from.now.socket (is_stream c.args.to.now.stack) (layers_of (λ vtable. (g.dyn-1.0.entry vtable).1) c.args.to.now.chain) c.args.to.now.socket piece c.args.deadline c.args.net.now c.send_in_turn.new.net c.args.from.now.sender c.send_in_turn.new.from.sender (g.N.Sockets.net c.args.net.now).told (g.N.Sockets.net c.send_in_turn.new.net).told c.args.to.now.receiver.ended (unread_of c.args.to.now.receiver.source) c.args.heard.now.items c.args.enough ends kept stands (Err c.in-Err.none) h (λ more became. (g.met.N.Sockets.shows c.args.net.now c.send_in_turn.new.net more became).told) c.in-Err.none
+    memory_rounded g.N.Sockets.Becomes x calls from_encoding c.args.from.now.socket (is_stream c.args.to.now.stack) to_layers c.args.to.now.socket piece c.args.deadline c.args.net.now c.send_in_turn.new.net c.args.from.now.sender c.send_in_turn.new.from.sender (g.N.Sockets.net c.args.net.now).told (g.N.Sockets.net c.send_in_turn.new.net).told c.args.to.now.receiver.ended (unread_of c.args.to.now.receiver.source) c.args.heard.now.items c.args.enough ends kept stands (Err c.in-Err.none) h (λ more became. (g.met.N.Sockets.shows c.args.net.now c.send_in_turn.new.net more became).told) c.in-Err.none
 
 pub returns-in-Ok-Gone-clause-moves : goal.returns-in-Ok-Gone-clause-moves
 returns-in-Ok-Gone-clause-moves g c =
