@@ -59,9 +59,9 @@ pub record HasAskedOnce {X : Type 0} {F : X → Type 0} {T : Type 0} (boxed : (x
   pub sender : now.sender ≡ record to.sender { moment = now.sender.moment }
 
 -- the accepted end is this connection's
-abbrev pub IsEndOf : {X : Type 0} {F : X → Type 0} {T : Type 0} → ((x : X) → framer.Ghosts (F x)) → Ends →
+abbrev pub IsAcceptedEnd : {X : Type 0} {F : X → Type 0} {T : Type 0} → ((x : X) → framer.Ghosts (F x)) → Ends →
     Connection T X F → ℕ → ℕ → Type 0
-IsEndOf boxed x to piece deadline =
+IsAcceptedEnd boxed x to piece deadline =
     IsEnd x (is_stream to.stack) (layers_of boxed to.chain) to.socket piece deadline
 
 -- what is kept of its receiving stands for the calls
@@ -72,10 +72,10 @@ IsKeptOf boxed x calls to piece ms =
     (unread_of to.receiver.source) ms
 
 -- it had its turn, behind which this is kept of its receiving, and these messages were heard
-abbrev pub HasHeard : {N : Type 0} {X : Type 0} {F : X → Type 0} {T : Type 0} → ((x : X) → framer.Ghosts (F x)) →
+abbrev pub HasHeardOnce : {N : Type 0} {X : Type 0} {F : X → Type 0} {T : Type 0} → ((x : X) → framer.Ghosts (F x)) →
     (N → List Call → N → Type 0) → Ends → List Call → Connection T X F → N → N → ℕ → ℕ → ℕ → Result In NoMemory →
     Receiver X F → List (List ℕ) → Type 0
-HasHeard boxed Becomes x calls to before after piece more needs result r ms = HasAsked Becomes x calls before after
+HasHeardOnce boxed Becomes x calls to before after piece more needs result r ms = HasAsked Becomes x calls before after
     (λ later. IsInIf x calls later (is_stream to.stack) (layers_of boxed to.chain) piece more needs result r.ended
     (unread_of r.source) ms)
 

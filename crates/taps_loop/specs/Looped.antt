@@ -50,7 +50,7 @@ pub record AreEndsOver (x : Ends) (from : ℕ) (stack : Stack) (to : ℕ) (accep
 
 -- Both ends may exchange: their sockets, which are two, are held, and nothing was shut or ended. These are the last
 -- reported time, how many bytes are asked for at once, and the deadline.
-pub record MayExchange (from : ℕ) (stack : Stack) (to : ℕ) (accepting : Stack) (at piece deadline : ℕ) (net : Net) :
+pub record MayExchangeBoth (from : ℕ) (stack : Stack) (to : ℕ) (accepting : Stack) (at piece deadline : ℕ) (net : Net) :
     Type 0 where
   pub piece_some : 1 ≤ piece
   pub piece_few : piece ≤ 65536

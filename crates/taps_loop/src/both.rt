@@ -14,7 +14,7 @@ ghost use Rattle.taps_socket.specs.LiveSockets.{live_sockets};
 ghost use Rattle.taps_socket.specs.RaceSockets.{has};
 ghost use Rattle.taps_stack.specs.StackTable.{is_stream};
 ghost use Rattle.taps_loop.specs.Connections.{MayTakeTurns, FromFirst};
-ghost use Rattle.taps_loop.specs.Looped.{AreEndsOver, MayExchange, HasClosedBoth, HasClosedOver, ClosesTwo, ClosesBoth};
+ghost use Rattle.taps_loop.specs.Looped.{AreEndsOver, MayExchangeBoth, HasClosedBoth, HasClosedOver, ClosesTwo, ClosesBoth};
 ghost use Rattle.taps_loop.specs.Loops.{Ends};
 
 use crate::reporting::Reporting;
@@ -165,7 +165,7 @@ fn exchange_with<N: Reporting>(
     deadline: u64,
     net: &mut N,
 ) -> Result<Exchanged, NoMemory>
-    requires ready { MayExchange from.socket from.stack to accepting at piece deadline (N.net net.old) }
+    requires ready { MayExchangeBoth from.socket from.stack to accepting at piece deadline (N.net net.old) }
     requires framers { AreFramers (layers_of ⟦<dyn Framer as Framer>⟧ from.chain) }
     requires same { layers_of ⟦<dyn Framer as Framer>⟧ chain ≡ layers_of ⟦<dyn Framer as Framer>⟧ from.chain }
     requires new { IsNewSender at from.sender }
@@ -200,7 +200,7 @@ fn exchange_over<N: Reporting>(
     deadline: u64,
     net: &mut N,
 ) -> Result<Exchanged, NoMemory>
-    requires ready { MayExchange from stack to accepting at piece deadline (N.net net.old) }
+    requires ready { MayExchangeBoth from stack to accepting at piece deadline (N.net net.old) }
     requires framers { AreFramers (layers_of ⟦<dyn Framer as Framer>⟧ chain) }
     requires same { layers_of ⟦<dyn Framer as Framer>⟧ copy ≡ layers_of ⟦<dyn Framer as Framer>⟧ chain }
     ensures closed { HasClosedOver N.Becomes from stack to accepting
@@ -233,7 +233,7 @@ pub fn exchange_both<N: Reporting>(
     deadline: u64,
     net: &mut N,
 ) -> Result<Exchanged, NoMemory>
-    requires ready { MayExchange from stack to accepting at piece deadline (N.net net.old) }
+    requires ready { MayExchangeBoth from stack to accepting at piece deadline (N.net net.old) }
     ensures closed { HasClosedOver N.Becomes from stack to accepting
         (layers_of ⟦<dyn Framer as Framer>⟧ chain.entry) messages.items at piece deadline net.old net.new result }
     ensures closes { ClosesBoth from to (N.net net.old) (N.net net.new) }

@@ -10,7 +10,7 @@ ghost use Rattle.taps_exchange.specs.Members.{calls_on, pieces_read};
 ghost use Rattle.taps_exchange.specs.Turns.{Turn};
 ghost use Rattle.taps_socket.specs.Calls.{Call};
 ghost use Rattle.taps_stack.specs.StackTable.{is_stream};
-ghost use Rattle.taps_loop.specs.Connections.{MayAsk, HasAskedOnce, IsEndOf, IsKeptOf, HasHeard};
+ghost use Rattle.taps_loop.specs.Connections.{MayAsk, HasAskedOnce, IsAcceptedEnd, IsKeptOf, HasHeardOnce};
 ghost use Rattle.taps_loop.specs.Loops.{Ends};
 ghost use Rattle.taps_loop.specs.Looks.{AreAll};
 ghost use Rattle.taps_loop.specs.Hears.{IsToHear, HasAsked, IsReadIf, IsInSooner, IfInGoesOn, IsSooner, IfCame, asked_by, timed_by, in_found, soon_by, one_true};
@@ -51,7 +51,7 @@ pub fn ask_in_turn<N: Reporting, S: Open>(
     requires goes_on { to.old.receiver.ended ≡ false }
     requires asks { MayAsk ⟦<dyn Framer as Framer>⟧ to.old (N.net net.old) deadline }
     ensures read { (x : Ends) (calls : List Call) (others : Turn) (piece more needs : ℕ) (ms : List (List ℕ)) →
-        IsEndOf ⟦<dyn Framer as Framer>⟧ x to.old piece deadline →
+        IsAcceptedEnd ⟦<dyn Framer as Framer>⟧ x to.old piece deadline →
         IsToHear x calls others more needs (N.net net.old).told →
         more ≡ one_true waits →
         IsKeptOf ⟦<dyn Framer as Framer>⟧ x calls to.old piece ms →
@@ -120,11 +120,11 @@ pub fn hear_in_turn<N: Reporting, S: Open>(
     requires asks { MayAsk ⟦<dyn Framer as Framer>⟧ to.old (N.net net.old) deadline }
     requires few { needs ≤ 256 }
     ensures heard { (x : Ends) (calls : List Call) (others : Turn) (piece more : ℕ) →
-        IsEndOf ⟦<dyn Framer as Framer>⟧ x to.old piece deadline →
+        IsAcceptedEnd ⟦<dyn Framer as Framer>⟧ x to.old piece deadline →
         IsToHear x calls others more needs (N.net net.old).told →
         more ≡ one_true waits →
         IsKeptOf ⟦<dyn Framer as Framer>⟧ x calls to.old piece heard.old.items →
-        HasHeard ⟦<dyn Framer as Framer>⟧ N.Becomes x calls to.old net.old net.new piece more needs result
+        HasHeardOnce ⟦<dyn Framer as Framer>⟧ N.Becomes x calls to.old net.old net.new piece more needs result
         to.new.receiver heard.new.items }
     ensures sooner { IsInSooner needs waits deadline (N.net net.old).told (N.net net.new).told result
         to.old.receiver.ended (unread_of to.old.receiver.source) to.new.receiver.ended
@@ -156,7 +156,7 @@ fn read_on<N: Reporting, S: Open>(
     requires few { needs ≤ 256 }
     requires less { count_given (unread_of to.old.receiver.source) < needs }
     ensures heard { (x : Ends) (calls : List Call) (others : Turn) (piece more : ℕ) →
-        IsEndOf ⟦<dyn Framer as Framer>⟧ x to.old piece deadline →
+        IsAcceptedEnd ⟦<dyn Framer as Framer>⟧ x to.old piece deadline →
         IsToHear x calls others more needs (N.net net.old).told →
         more ≡ one_true waits →
         IsKeptOf ⟦<dyn Framer as Framer>⟧ x calls to.old piece heard.old.items →
@@ -166,7 +166,7 @@ fn read_on<N: Reporting, S: Open>(
         length heard.old.items < needs →
         AreAll (decoding_of (is_stream to.old.stack) (layers_of ⟦<dyn Framer as Framer>⟧ to.old.chain))
         (pieces_read (calls_on x.to.socket calls)) to.old.receiver.ended heard.old.items →
-        HasHeard ⟦<dyn Framer as Framer>⟧ N.Becomes x calls to.old net.old net.new piece more needs result
+        HasHeardOnce ⟦<dyn Framer as Framer>⟧ N.Becomes x calls to.old net.old net.new piece more needs result
         to.new.receiver heard.new.items }
     ensures sooner { IsInSooner needs waits deadline (N.net net.old).told (N.net net.new).told result
         to.old.receiver.ended (unread_of to.old.receiver.source) to.new.receiver.ended
