@@ -41,11 +41,6 @@ closes_behind a b m n o p spent q =
       others = λ s k l. q.traffic s ∙ p.others s k l;
     }
 
-pub closes_only : (a b : ℕ) (m o : Net) → ClosesTwo a b m o → ClosesBoth a b m o
-closes_only a b m o q =
-    let y = q.spare in
-    record { items = []; trace = q.trace; own = tt; spare = omega (arith, y); spent = omega (arith, y); faults = q.faults; others = λ s k l. q.traffic s }
-
 module _ {N : Type 0} (Becomes : N → List Call → N → Type 0) (on : (a b c : N) (g h : List Call) → Becomes a g b → Becomes b h c → Becomes a (h ++ g) c) (x : Ends) (from to : ℕ) (a b c : N) where
   pub closed_behind : (e : Exchanged) → IsTaken Becomes x a b e.outcome e.sent e.heard.items → Becomes b (closes to ∷ closes from ∷ []) c → IsClosedBoth Becomes x from to a c e
   closed_behind e k became =
@@ -59,6 +54,3 @@ module _ {N : Type 0} (Becomes : N → List Call → N → Type 0) (on : (a b c 
 
   pub cut_behind : IsTakenShort Becomes x a b → Becomes b (closes to ∷ closes from ∷ []) c → IsCutBoth Becomes x from to a c
   cut_behind k became = record { calls = k.calls; becomes = on a b c k.calls (closes to ∷ closes from ∷ []) k.becomes became; in_turn = k.in_turn }
-
-  pub cut_only : Becomes a (closes to ∷ closes from ∷ []) c → IsCutBoth Becomes x from to a c
-  cut_only became = record { calls = []; becomes = became; in_turn = tt }

@@ -12,6 +12,7 @@ pub mod Starting
 pub mod Going
 pub mod Closings
 pub mod Acceptings
+pub mod MayAsking
 pub mod Loopings
 mod SendSteps
 mod Spelling

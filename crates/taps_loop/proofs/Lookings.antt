@@ -145,11 +145,6 @@ module _ {X : Type 0} {F : X → Type 0} (boxed : (x : X) → framer.Ghosts (F x
       let same = need_same fs old.ended (unread_of old.source) (unread_of new.source) a.given_out in
       record { fits = subst (Fits stream fs piece) (sym same) h.fits; represents = subst (λ v. Represents fs old.ended v read (map message ms)) (sym same) h.represents }
 
-  pub need_nearer : IsAnswered boxed fs stack old heard.Need new → IsNearer old.ended (unread_of old.source) (unread_of new.source)
-  need_nearer a =
-      let same = need_same fs old.ended (unread_of old.source) (unread_of new.source) a.given_out in
-      subst (λ v. IsNearer old.ended (unread_of old.source) v) (sym same) (record { more = omega arith; less = λ l. absurd (omega (arith, l)); same = omega arith })
-
   need_lacks : (piece n : ℕ) (read ms : List (List ℕ)) → IsAnswered boxed fs stack old heard.Need new → Before piece read ms → length ms < 2 ^ 64 → length ms < n → IsLacking (decoding_of stream fs) piece n read old.ended (unread_of new.source) ms
   need_lacks piece n read ms a h small less = lacking stream fs old.ended piece n read ms (unread_of old.source) (unread_of new.source) w small less h.fits a.given_out h.represents
 
@@ -184,9 +179,6 @@ module _ {X : Type 0} {F : X → Type 0} (boxed : (x : X) → framer.Ghosts (F x
 
   pub bad_found : (bad : BadAt) (piece needs : ℕ) (read ms : List (List ℕ)) → IsAnswered boxed fs stack old (heard.Bad bad) new → Before piece read ms → length ms < 2 ^ 64 → length ms < needs → IsFound stream fs piece needs read old.ended (look.Over (outcome.BadFrame bad)) (unread_of new.source) ms
   bad_found bad piece needs read ms a h small less = (bad_ends bad piece needs read ms a h small less, less, bad_all bad piece read ms a h small)
-
-pub nearer_none : (ended : Bool) (u : Unread) → IsNearer ended u u
-nearer_none ended u = record { more = omega arith; less = λ l. absurd (omega (arith, l)); same = omega arith }
 
 closer_by : (a b c : ℕ) → a ≤ b → a < c → (a < b) ⊎ (b < c)
 closer_by a b c h l = by_size (le_or b a)

@@ -94,9 +94,6 @@ moves_from a b most m n c = record { items = c.items; trace = c.trace; own = fro
 pub moves_to : (a b most : ℕ) (m n : Net) → Changes b most m n → Moves a b m n
 moves_to a b most m n c = record { items = c.items; trace = c.trace; own = to_items a b c.items c.own; spare = c.spare; faults = c.faults; others = λ s p q. c.others s q }
 
-pub moves_none : (a b : ℕ) (m : Net) → Moves a b m m
-moves_none a b m = record { items = []; trace = refl; own = tt; spare = omega arith; faults = refl; others = λ s p q. refl }
-
 pub moves_on : (a b : ℕ) (m n o : Net) → Moves a b m n → Moves a b n o → Moves a b m o
 moves_on a b m n o p q =
     let size = length-append q.items p.items in

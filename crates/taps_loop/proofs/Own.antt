@@ -38,10 +38,6 @@ pub other_number : (s t : ℕ) → t ≢ s → (s == t) ≡ false
 other_number s t n = other_by s t (s == t) refl n
 
 -- one call more, on the socket or on another
-here_by : (s : ℕ) (c : Call) (calls : List Call) (b : Bool) → is_on s c ≡ b → b ≡ true → calls_on s (c ∷ calls) ≡ c ∷ calls_on s calls
-here_by s c calls true e h = rw e refl
-here_by s c calls false e h = cc
-
 pub here : (s : ℕ) (c : Call) (calls : List Call) → is_on s c ≡ true → calls_on s (c ∷ calls) ≡ c ∷ calls_on s calls
 here s c calls h = rw h refl
 

@@ -40,6 +40,11 @@ done_needs x calls (Some number) = refl
 pub enough_turn : (x : Ends) (calls : List Call) (more : ℕ) (others : Turn) (ms : List (List ℕ)) → hearing x more calls ≡ enough ms → turn_hearing x more calls others ≡ others
 enough_turn x calls more others ms h = ap (λ v. turn_in (record x.to { until = soon x calls }) (peer_ended x calls) v others) h
 
+-- as many were heard as are needed
+enough_of : (again : Bool) (needs : ℕ) (h : Hearing) (ms : List (List ℕ)) → again ≡ true → IsFlagged again needs h ms → needs ≤ length ms
+enough_of true needs h ms i f = f.0
+enough_of false needs h ms i f = cc
+
 module _ {N : Type 0} (Becomes : N → List Call → N → Type 0) (x : Ends) (calls : List Call) (e : Encoding) (from : ℕ) (stream : Bool) (fs : List Layer) (to piece deadline : ℕ) (a b : N) (s : Sender) (told told2 : ℕ) (ended : Bool) (u : Unread) (ms : List (List ℕ))
     (ends : AreEnds x e from stream fs to piece deadline) (kept : AreKept x calls e stream fs piece s told ended u ms) (shows : (more : List Call) → Becomes a more b → told2 ≡ told_after more told) where
   told_behind : (more : List Call) → Becomes a more b → told2 ≡ told_after (more ++ calls) x.from.accepted
@@ -122,15 +127,11 @@ module _ {N : Type 0} (Becomes : N → List Call → N → Type 0) (x : Ends) (c
               waits_for = λ w. so.4 ∙ w;
               flagged = λ w. subst (λ k. IsFlagged again k (hearing x 1 (h.later ++ calls)) ms2) (n ∙ ap (λ k. s.sent + k) w)
                   (subst (λ k. IsFlagged again needs (hearing x k (h.later ++ calls)) ms2) w so.1);
-              enough_so = λ i. (let l = enough_of again needs (hearing x (waits s) (h.later ++ calls)) i so.1 in omega (arith, n, l));
+              enough_so = λ i. (let l = enough_of again needs (hearing x (waits s) (h.later ++ calls)) ms2 i so.1 in omega (arith, n, l));
               had = λ i. so.3;
             },
           );
         }
-      where
-        enough_of : (again : Bool) (needs : ℕ) (h : Hearing) → again ≡ true → IsFlagged again needs h ms2 → needs ≤ length ms2
-        enough_of true needs h i f = f.0
-        enough_of false needs h i f = cc
 
     -- no message is left
     pub to_hear_last : (was : Bool) → IsLast x calls s ms was → was ≡ false → IsToHear x calls (over (done_or s.expired 0 outcome.Done)) 0 s.sent told
@@ -157,15 +158,11 @@ module _ {N : Type 0} (Becomes : N → List Call → N → Type 0) (x : Ends) (c
               turn = so.2;
               waits_for = λ w. absurd (omega (arith, none, w));
               flagged = λ w. absurd (omega (arith, none, w));
-              enough_so = λ i. enough_of again s.sent (hearing x 0 (h.later ++ calls)) i so.1;
+              enough_so = λ i. enough_of again s.sent (hearing x 0 (h.later ++ calls)) ms2 i so.1;
               had = λ i. so.3;
             },
           );
         }
-      where
-        enough_of : (again : Bool) (needs : ℕ) (h : Hearing) → again ≡ true → IsFlagged again needs h ms2 → needs ≤ length ms2
-        enough_of true needs h i f = f.0
-        enough_of false needs h i f = cc
 
     pub done_ended : (was : Bool) (o : Outcome) → IsLast x calls s ms was → o ≡ done_or s.expired 0 outcome.Done → hearing x 0 calls ≡ enough (take s.sent ms2) → IsEnded x calls o s.sent (take s.sent ms2)
     done_ended was o last is h =

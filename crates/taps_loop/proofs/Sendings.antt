@@ -1,5 +1,5 @@
 -- The turn of the sending end, by what its connection answered.
-use Rattle.std.proofs.Common.{◌≡◌, ℕ, ◌+◌, ◌<◌, ◌≤◌, ◌^◌, Bool, true, false, ◌&&◌, if◌then◌else◌, List, [], ◌∷◌, ◌++◌, length, drop, Option, Some, None, refl, sym, ap, subst, ◌∙◌, ◌⊎◌, inl, inr, arith, length-drop}
+use Rattle.std.proofs.Common.{◌≡◌, ◌≢◌, ℕ, ◌+◌, ◌<◌, ◌≤◌, ◌^◌, Bool, true, false, ◌&&◌, if◌then◌else◌, List, [], ◌∷◌, ◌++◌, length, drop, Option, Some, None, refl, sym, ap, subst, ◌∙◌, ◌⊎◌, inl, inr, arith, length-drop}
 use Rattle.std.specs.Prelude.{nat_le, Result, Ok, Err}
 use Rattle.std.proofs.lemmas.Bool.{leb-true}
 use Rattle.std.proofs.lemmas.List.{append-nil}
@@ -31,7 +31,7 @@ use Rattle.taps_connection.specs.Outboxes.{Stand, begun, ending, refused, all_ou
 use Rattle.taps_connection.specs.Pushes.{left_at}
 use Rattle.taps_connection.specs.Runs.{AllAsked, IsRun}
 use Rattle.taps_connection.specs.Senders as senders
-use Rattle.taps_connection.specs.Senders.{settled, settled_by, queued, idle, turn_of, turn_in, turn_if, begun_of, goes, expires, refuses, behind_by, tail_of, AreOfOne, IsSent, IsStopped, IsSame, IsPushed, IsDriven}
+use Rattle.taps_connection.specs.Senders.{settled, settled_by, queued, idle, turn_of, turn_in, turn_if, begun_of, goes, expires, refuses, behind_by, tail_of, AreOfOne, IsStopped, IsSame, IsPushed, IsDriven}
 use Rattle.taps_exchange.specs.declared.outcome.Outcome.TheVariants as outcome
 use Rattle.taps_exchange.specs.Decodings.{message, need}
 use Rattle.taps_exchange.specs.Members.{Member, calls_on}
@@ -150,37 +150,15 @@ asks_some next box number false [] (inl h) e = absurd (omega (arith, h))
 asks_some next box number false [] (inr h) e = cc
 asks_some next box number ends (y ∷ rest) h e = cc
 
--- a message is begun or queued
-goes_waits : (e : Encoding) (s : Sender) (b : Begun) → turn_of e s ≡ goes b → waits s ≡ 1
-goes_waits e s b h = by_begun s.begun h
+-- where there is a turn, a message is begun or queued
+turn_waits : (e : Encoding) (s : Sender) (t : senders.Turn) → t ≢ senders.nothing → turn_of e s ≡ t → waits s ≡ 1
+turn_waits e s t some h = by_begun s.begun h
   where
-    by_queue : (messages : List Accepted) → turn_in e s.moment s.sent messages ≡ goes b → one_if messages ≡ 1
-    by_queue [] h = cc
+    by_queue : (messages : List Accepted) → turn_in e s.moment s.sent messages ≡ t → one_if messages ≡ 1
+    by_queue [] h = absurd (some (sym h))
     by_queue (m ∷ behind) h = refl
 
-    by_begun : (o : Option Begun) → senders.turn_by e s o ≡ goes b → waits_by o (queued s) ≡ 1
-    by_begun (Some a) h = refl
-    by_begun None h = by_queue (queued s) h
-
-expires_waits : (e : Encoding) (s : Sender) (number : ℕ) → turn_of e s ≡ expires number → waits s ≡ 1
-expires_waits e s number h = by_begun s.begun h
-  where
-    by_queue : (messages : List Accepted) → turn_in e s.moment s.sent messages ≡ expires number → one_if messages ≡ 1
-    by_queue [] h = cc
-    by_queue (m ∷ behind) h = refl
-
-    by_begun : (o : Option Begun) → senders.turn_by e s o ≡ expires number → waits_by o (queued s) ≡ 1
-    by_begun (Some a) h = refl
-    by_begun None h = by_queue (queued s) h
-
-refuses_waits : (e : Encoding) (s : Sender) (number layer : ℕ) → turn_of e s ≡ refuses number layer → waits s ≡ 1
-refuses_waits e s number layer h = by_begun s.begun h
-  where
-    by_queue : (messages : List Accepted) → turn_in e s.moment s.sent messages ≡ refuses number layer → one_if messages ≡ 1
-    by_queue [] h = cc
-    by_queue (m ∷ behind) h = refl
-
-    by_begun : (o : Option Begun) → senders.turn_by e s o ≡ refuses number layer → waits_by o (queued s) ≡ 1
+    by_begun : (o : Option Begun) → senders.turn_by e s o ≡ t → waits_by o (queued s) ≡ 1
     by_begun (Some a) h = refl
     by_begun None h = by_queue (queued s) h
 
@@ -268,7 +246,7 @@ module _ {N : Type 0} (Becomes : N → List Call → N → Type 0) (x : Ends) (c
     asked_here = subst (λ v. AllAsked x.from.encoding x.from.socket until v more) (sym start.kept) asked
 
     first : (r : Request) → asks_out x.from.socket until (sending x calls).stand ≡ Some r → turn_loop x calls ≡ asks r
-    first r q = start.turn ∙ out_asks x.from until _ (sending x calls).stand _ r (start.until_is (goes_waits x.from.encoding s message goes_so)) q
+    first r q = start.turn ∙ out_asks x.from until _ (sending x calls).stand _ r (start.until_is (turn_waits x.from.encoding s (goes message) (λ e. cc) goes_so)) q
 
     pub run_in_turn : IsInTurn (turn_loop x) (more ++ calls)
     run_in_turn = in_turn_run x calls until message.number message.ends behind alone alike first start.in_turn more asked_here (one message goes_so) others
@@ -381,14 +359,14 @@ module _ {N : Type 0} (Becomes : N → List Call → N → Type 0) (x : Ends) (c
 
   expired_turned : (number : ℕ) (more : List Call) → Becomes a more b → IsPushed x.from.encoding x.from.socket until s (pushed.Expired number) more t → Turned (Ok out.Passed)
   expired_turned number more became (same, turn, first_one, taken) =
-      still_turned more (Ok out.Passed) taken.nothing_called became (ap (λ (v : Sender). v.sent) taken.kept) (start.kept ∙ sym same) (refl, λ w. start.waits_for (expires_waits x.from.encoding s number turn))
+      still_turned more (Ok out.Passed) taken.nothing_called became (ap (λ (v : Sender). v.sent) taken.kept) (start.kept ∙ sym same) (refl, λ w. start.waits_for (turn_waits x.from.encoding s (expires number) (λ e. cc) turn))
 
   refused_turned : (number layer : ℕ) (more : List Call) → Becomes a more b → IsPushed x.from.encoding x.from.socket until s (pushed.NotSpeakable number layer) more t → Turned (Ok (out.Over (outcome.NotSpeakable 0 number layer)))
   refused_turned number layer more became (stands, turn, first_one, taken) =
       let now : (sending x calls).stand ≡ refused number layer (queued t) = ap (λ (v : Outbox). v.stand) start.kept ∙ stands in
       still_turned more (Ok (out.Over (outcome.NotSpeakable 0 number layer))) taken.nothing_called became (ap (λ (v : Sender). v.sent) taken.kept) tt (
         start.turn ∙ ap (λ v. turn_out (record x.from { until = until_by (hearing x 1 calls) (at_once x calls) (soon x calls) }) 0 v (turn_hearing x 0 calls (over (done_or (sending x calls).expired 0 outcome.Done)))) now,
-        start.waits_for (refuses_waits x.from.encoding s number layer turn),
+        start.waits_for (turn_waits x.from.encoding s (refuses number layer) (λ e. cc) turn),
         refl,
       )
 

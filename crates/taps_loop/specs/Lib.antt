@@ -4,5 +4,6 @@ pub mod Looks
 pub mod Sends
 pub mod Hears
 pub mod Rounds
+pub mod Connections
 pub mod Looped
 pub mod Judged

@@ -1,6 +1,6 @@
 -- How both ends of a connection that one program holds went through their exchange, from the accept to the closes
 -- (RFC 9622 sections 7.2, 9.2, 9.3 and 10).
-use Rattle.std.specs.Prelude.{◌≡◌, ◌≢◌, ◌≤◌, ◌^◌, ◌-◌, ◌+◌, ℕ, min, List, [], ◌∷◌, ◌++◌, length, Result, Ok, Err}
+use Rattle.std.specs.Prelude.{◌≡◌, ◌≢◌, ◌≤◌, ◌<◌, ◌^◌, ◌-◌, ◌+◌, ℕ, min, false, List, [], ◌∷◌, ◌++◌, length, Result, Ok, Err}
 use Rattle.taps_base.specs.Counts.{Rose}
 use Rattle.taps_base.specs.declared.no_memory.NoMemory.{NoMemory}
 use Rattle.taps_framer.specs.Layers.{Layer}
@@ -12,6 +12,7 @@ use Rattle.taps_socket.specs.declared.item.Item.{Item}
 use Rattle.taps_socket.specs.declared.item.Item.TheVariants as item
 use Rattle.taps_socket.specs.Calls.{Call, accepts, closes}
 use Rattle.taps_socket.specs.Net.{Net, IsGiven}
+use Rattle.taps_connection.specs.Conditions.{IsHeld}
 use Rattle.taps_connection.specs.Encodings.{encoding_of}
 use Rattle.taps_exchange.specs.declared.exchanged.Exchanged.{Exchanged}
 use Rattle.taps_exchange.specs.Accepting.{accepted_of}
@@ -47,6 +48,20 @@ pub record AreEndsOver (x : Ends) (from : ℕ) (stack : Stack) (to : ℕ) (accep
   pub to_is : x.to.socket ≡ to
   pub piece_is : x.to.piece ≡ piece
 
+-- Both ends may exchange: their sockets, which are two, are held, and nothing was shut or ended. These are the last
+-- reported time, how many bytes are asked for at once, and the deadline.
+pub record MayExchangeBoth (from : ℕ) (stack : Stack) (to : ℕ) (accepting : Stack) (at piece deadline : ℕ) (net : Net) :
+    Type 0 where
+  pub piece_some : 1 ≤ piece
+  pub piece_few : piece ≤ 65536
+  pub holds : IsHeld net.trace from (is_stream stack) false false
+  pub held : IsHeld net.trace to (is_stream accepting) false false
+  pub apart : to ≢ from
+  pub told : net.told ≡ at
+  pub spare : 6 ≤ net.spare
+  pub bounded : deadline < 2 ^ 63
+  pub some : net.trace ≢ []
+
 -- calls were made that are an exchange with this outcome, and then both sockets were closed
 pub record IsClosedBoth {N : Type 0} (Becomes : N → List Call → N → Type 0) (x : Ends) (from to : ℕ) (before after : N)
     (e : Exchanged) : Type 0 where
@@ -67,6 +82,13 @@ abbrev pub HasClosedBoth : {N : Type 0} → (N → List Call → N → Type 0) �
     Result Exchanged NoMemory → Type 0
 HasClosedBoth Becomes x from to before after (Ok e) = IsClosedBoth Becomes x from to before after e
 HasClosedBoth Becomes x from to before after (Err none) = IsCutBoth Becomes x from to before after
+
+-- so it is for such ends
+abbrev pub HasClosedOver : {N : Type 0} → (N → List Call → N → Type 0) → ℕ → Stack → ℕ → Stack → List Layer →
+    List Message → ℕ → ℕ → ℕ → N → N → Result Exchanged NoMemory → Type 0
+HasClosedOver Becomes from stack to accepting fs messages at piece deadline before after result = (x : Ends) →
+    AreEndsOver x from stack to accepting fs messages at piece deadline →
+    HasClosedBoth Becomes x from to before after result
 
 -- both sockets were closed, and nothing else was done
 pub record ClosesTwo (from to : ℕ) (before after : Net) : Type 0 where

@@ -1,24 +1,21 @@
 // The exchange of both ends, behind which both sockets are closed.
-ghost use Rattle.std.specs.Prelude.{◌≡◌, ◌≢◌, ◌≤◌, ◌<◌, ◌^◌, ◌-◌, ◌+◌, ◌∷◌, ℕ, [], List, None, true, false, length};
+ghost use Rattle.std.specs.Prelude.{◌≡◌, ◌≢◌, ◌≤◌, ◌<◌, ◌^◌, ◌∷◌, ℕ, [], None, true, false, length};
 ghost use Rattle.taps_chain.specs.ChainLaws.{AreFramers};
 ghost use Rattle.taps_chain.specs.Layers.{layers_of};
 ghost use Rattle.taps_connection.specs.Conditions.{IsHeld};
-ghost use Rattle.taps_connection.specs.Encodings.{encoding_of};
 ghost use Rattle.taps_connection.specs.Histories.{Represents};
 ghost use Rattle.taps_connection.specs.Inboxes.{IsSoundReceiver};
 ghost use Rattle.taps_connection.specs.Senders.{IsNewSender, queued};
 ghost use Rattle.taps_connection.specs.Sound.{IsSound};
 ghost use Rattle.taps_connection.specs.Sources.{unread_of};
 ghost use Rattle.taps_connection.specs.Unread.{first_unread};
-ghost use Rattle.taps_exchange.specs.Accepting.{accepted_of};
-ghost use Rattle.taps_exchange.specs.Exchanged.{IsFresh};
-ghost use Rattle.taps_socket.specs.Calls.{Call, closes};
+ghost use Rattle.taps_socket.specs.Calls.{closes};
 ghost use Rattle.taps_socket.specs.LiveSockets.{live_sockets};
 ghost use Rattle.taps_socket.specs.RaceSockets.{has};
 ghost use Rattle.taps_stack.specs.StackTable.{is_stream};
-ghost use Rattle.taps_loop.specs.Looped.{AreEndsOver, HasClosedBoth, ClosesTwo, ClosesBoth};
+ghost use Rattle.taps_loop.specs.Connections.{MayTakeTurns, FromFirst};
+ghost use Rattle.taps_loop.specs.Looped.{AreEndsOver, MayExchangeBoth, HasClosedBoth, HasClosedOver, ClosesTwo, ClosesBoth};
 ghost use Rattle.taps_loop.specs.Loops.{Ends};
-ghost use Rattle.taps_loop.specs.Rounds.{AreEnds, AreKept};
 
 use crate::reporting::Reporting;
 use crate::turns::take_turns;
@@ -71,28 +68,12 @@ fn exchange_open<N: Reporting>(
     deadline: u64,
     net: &mut N,
 ) -> Result<Exchanged, NoMemory>
-    requires framers { AreFramers (layers_of ⟦<dyn Framer as Framer>⟧ from.chain) }
-    requires hearers { AreFramers (layers_of ⟦<dyn Framer as Framer>⟧ to.chain) }
-    requires sends { IsSound (is_stream from.stack) (layers_of ⟦<dyn Framer as Framer>⟧ from.chain) from.sender }
+    requires may { MayTakeTurns ⟦<dyn Framer as Framer>⟧ from to (N.net net.old) deadline }
     requires none { from.sender.begun ≡ None }
-    requires holds { IsHeld (N.net net.old).trace from.socket (is_stream from.stack) from.sender.shut
-        from.receiver.ended }
-    requires sound { IsSoundReceiver ⟦<dyn Framer as Framer>⟧ to.stack
-        (layers_of ⟦<dyn Framer as Framer>⟧ to.chain) to.receiver }
-    requires held { IsHeld (N.net net.old).trace to.socket (is_stream to.stack) to.sender.shut to.receiver.ended }
-    requires apart { to.socket ≢ from.socket }
     requires spare { 6 ≤ (N.net net.old).spare }
-    requires deadline { deadline < 2 ^ 63 }
-    requires some { (N.net net.old).trace ≢ [] }
-    ensures closed { (x : Ends) (piece : ℕ) →
-        AreEnds x (encoding_of (is_stream from.entry.stack) (layers_of ⟦<dyn Framer as Framer>⟧ from.entry.chain))
-        from.entry.socket (is_stream to.entry.stack) (layers_of ⟦<dyn Framer as Framer>⟧ to.entry.chain)
-        to.entry.socket piece deadline →
-        AreKept x [] (encoding_of (is_stream from.entry.stack) (layers_of ⟦<dyn Framer as Framer>⟧ from.entry.chain))
-        (is_stream to.entry.stack) (layers_of ⟦<dyn Framer as Framer>⟧ to.entry.chain) piece from.entry.sender
-        (N.net net.old).told to.entry.receiver.ended (unread_of to.entry.receiver.source) [] →
-        x.from.messages ≡ queued from.entry.sender →
-        HasClosedBoth N.Becomes x from.entry.socket to.entry.socket net.old net.new result }
+    ensures closed { FromFirst ⟦<dyn Framer as Framer>⟧ from.entry to.entry deadline (N.net net.old).told []
+        (λ x. x.from.messages ≡ queued from.entry.sender)
+        (λ x. HasClosedBoth N.Becomes x from.entry.socket to.entry.socket net.old net.new result) }
     ensures closes { ClosesBoth from.entry.socket to.entry.socket (N.net net.old) (N.net net.new) }
 {
     let mut heard = Vec::new(alloc);
@@ -184,23 +165,14 @@ fn exchange_with<N: Reporting>(
     deadline: u64,
     net: &mut N,
 ) -> Result<Exchanged, NoMemory>
-    requires piece_some { 1 ≤ piece }
-    requires piece_few { piece ≤ 65536 }
+    requires ready { MayExchangeBoth from.socket from.stack to accepting at piece deadline (N.net net.old) }
     requires framers { AreFramers (layers_of ⟦<dyn Framer as Framer>⟧ from.chain) }
     requires same { layers_of ⟦<dyn Framer as Framer>⟧ chain ≡ layers_of ⟦<dyn Framer as Framer>⟧ from.chain }
     requires new { IsNewSender at from.sender }
     requires sends { IsSound (is_stream from.stack) (layers_of ⟦<dyn Framer as Framer>⟧ from.chain) from.sender }
     requires goes_on { from.receiver.ended ≡ false }
-    requires holds { IsHeld (N.net net.old).trace from.socket (is_stream from.stack) false false }
-    requires held { IsHeld (N.net net.old).trace to (is_stream accepting) false false }
-    requires apart { to ≢ from.socket }
-    requires told { (N.net net.old).told ≡ at }
-    requires spare { 6 ≤ (N.net net.old).spare }
-    requires deadline { deadline < 2 ^ 63 }
-    requires some { (N.net net.old).trace ≢ [] }
-    ensures closed { (x : Ends) → AreEndsOver x from.entry.socket from.entry.stack to accepting
-        (layers_of ⟦<dyn Framer as Framer>⟧ from.entry.chain) messages.items at piece deadline →
-        HasClosedBoth N.Becomes x from.entry.socket to net.old net.new result }
+    ensures closed { HasClosedOver N.Becomes from.entry.socket from.entry.stack to accepting
+        (layers_of ⟦<dyn Framer as Framer>⟧ from.entry.chain) messages.items at piece deadline net.old net.new result }
     ensures closes { ClosesBoth from.entry.socket to (N.net net.old) (N.net net.new) }
 {
     match Connection::new(alloc, to, accepting, chain, props, piece, at) {
@@ -228,20 +200,11 @@ fn exchange_over<N: Reporting>(
     deadline: u64,
     net: &mut N,
 ) -> Result<Exchanged, NoMemory>
-    requires piece_some { 1 ≤ piece }
-    requires piece_few { piece ≤ 65536 }
+    requires ready { MayExchangeBoth from stack to accepting at piece deadline (N.net net.old) }
     requires framers { AreFramers (layers_of ⟦<dyn Framer as Framer>⟧ chain) }
     requires same { layers_of ⟦<dyn Framer as Framer>⟧ copy ≡ layers_of ⟦<dyn Framer as Framer>⟧ chain }
-    requires holds { IsHeld (N.net net.old).trace from (is_stream stack) false false }
-    requires held { IsHeld (N.net net.old).trace to (is_stream accepting) false false }
-    requires apart { to ≢ from }
-    requires told { (N.net net.old).told ≡ at }
-    requires spare { 6 ≤ (N.net net.old).spare }
-    requires deadline { deadline < 2 ^ 63 }
-    requires some { (N.net net.old).trace ≢ [] }
-    ensures closed { (x : Ends) → AreEndsOver x from stack to accepting
-        (layers_of ⟦<dyn Framer as Framer>⟧ chain.entry) messages.items at piece deadline →
-        HasClosedBoth N.Becomes x from to net.old net.new result }
+    ensures closed { HasClosedOver N.Becomes from stack to accepting
+        (layers_of ⟦<dyn Framer as Framer>⟧ chain.entry) messages.items at piece deadline net.old net.new result }
     ensures closes { ClosesBoth from to (N.net net.old) (N.net net.new) }
 {
     match Connection::new(alloc, from, stack, chain, props, piece, at) {
@@ -270,18 +233,9 @@ pub fn exchange_both<N: Reporting>(
     deadline: u64,
     net: &mut N,
 ) -> Result<Exchanged, NoMemory>
-    requires piece_some { 1 ≤ piece }
-    requires piece_few { piece ≤ 65536 }
-    requires holds { IsHeld (N.net net.old).trace from (is_stream stack) false false }
-    requires held { IsHeld (N.net net.old).trace to (is_stream accepting) false false }
-    requires apart { to ≢ from }
-    requires told { (N.net net.old).told ≡ at }
-    requires spare { 6 ≤ (N.net net.old).spare }
-    requires deadline { deadline < 2 ^ 63 }
-    requires some { (N.net net.old).trace ≢ [] }
-    ensures closed { (x : Ends) → AreEndsOver x from stack to accepting
-        (layers_of ⟦<dyn Framer as Framer>⟧ chain.entry) messages.items at piece deadline →
-        HasClosedBoth N.Becomes x from to net.old net.new result }
+    requires ready { MayExchangeBoth from stack to accepting at piece deadline (N.net net.old) }
+    ensures closed { HasClosedOver N.Becomes from stack to accepting
+        (layers_of ⟦<dyn Framer as Framer>⟧ chain.entry) messages.items at piece deadline net.old net.new result }
     ensures closes { ClosesBoth from to (N.net net.old) (N.net net.new) }
 {
     chain.vouch();

@@ -1,21 +1,19 @@
 // The turn of the end that hears.
-ghost use Rattle.std.specs.Prelude.{◌≡◌, ◌≢◌, ◌≤◌, ◌<◌, ◌^◌, ◌+◌, ℕ, [], List, false, length};
+ghost use Rattle.std.specs.Prelude.{◌≡◌, ◌≤◌, ◌<◌, ◌+◌, ℕ, List, false, length};
 ghost use Rattle.taps_chain.specs.ChainLaws.{AreFramers};
 ghost use Rattle.taps_chain.specs.Layers.{layers_of};
-ghost use Rattle.taps_connection.specs.Conditions.{IsHeld};
-ghost use Rattle.taps_connection.specs.Inboxes.{IsSoundReceiver};
 ghost use Rattle.taps_connection.specs.Sources.{unread_of};
 ghost use Rattle.taps_connection.specs.Unread.{count_given, IsWanting};
-ghost use Rattle.taps_exchange.specs.Changes.{Changes};
 ghost use Rattle.taps_exchange.specs.Decodings.{decoding_of};
-ghost use Rattle.taps_exchange.specs.Hearings.{IsLacking, one_unless};
+ghost use Rattle.taps_exchange.specs.Hearings.{IsLacking};
 ghost use Rattle.taps_exchange.specs.Members.{calls_on, pieces_read};
 ghost use Rattle.taps_exchange.specs.Turns.{Turn};
 ghost use Rattle.taps_socket.specs.Calls.{Call};
 ghost use Rattle.taps_stack.specs.StackTable.{is_stream};
+ghost use Rattle.taps_loop.specs.Connections.{MayAsk, HasAskedOnce, IsAcceptedEnd, IsKeptOf, HasHeardOnce};
 ghost use Rattle.taps_loop.specs.Loops.{Ends};
 ghost use Rattle.taps_loop.specs.Looks.{AreAll};
-ghost use Rattle.taps_loop.specs.Hears.{IsEnd, IsKept, IsToHear, HasAsked, IsReadIf, IsInIf, IsInSooner, IfInGoesOn, IsSooner, IfCame, asked_by, timed_by, in_found, soon_by, one_true};
+ghost use Rattle.taps_loop.specs.Hears.{IsToHear, HasAsked, IsReadIf, IsInSooner, IfInGoesOn, IsSooner, IfCame, asked_by, timed_by, in_found, soon_by, one_true};
 
 use crate::looked::{Look, look_for};
 use crate::reporting::Reporting;
@@ -51,20 +49,12 @@ pub fn ask_in_turn<N: Reporting, S: Open>(
 ) -> Result<Asked, NoMemory>
     requires wanting { IsWanting (unread_of to.old.receiver.source) }
     requires goes_on { to.old.receiver.ended ≡ false }
-    requires sound { IsSoundReceiver ⟦<dyn Framer as Framer>⟧ to.old.stack
-        (layers_of ⟦<dyn Framer as Framer>⟧ to.old.chain) to.old.receiver }
-    requires held { IsHeld (N.net net.old).trace to.old.socket (is_stream to.old.stack) to.old.sender.shut
-        to.old.receiver.ended }
-    requires spare { 1 ≤ (N.net net.old).spare }
-    requires deadline { deadline < 2 ^ 63 }
-    requires some { (N.net net.old).trace ≢ [] }
+    requires asks { MayAsk ⟦<dyn Framer as Framer>⟧ to.old (N.net net.old) deadline }
     ensures read { (x : Ends) (calls : List Call) (others : Turn) (piece more needs : ℕ) (ms : List (List ℕ)) →
-        IsEnd x (is_stream to.old.stack) (layers_of ⟦<dyn Framer as Framer>⟧ to.old.chain) to.old.socket piece
-        deadline →
+        IsAcceptedEnd ⟦<dyn Framer as Framer>⟧ x to.old piece deadline →
         IsToHear x calls others more needs (N.net net.old).told →
         more ≡ one_true waits →
-        IsKept x calls (is_stream to.old.stack) (layers_of ⟦<dyn Framer as Framer>⟧ to.old.chain) piece
-        to.old.receiver.ended (unread_of to.old.receiver.source) ms →
+        IsKeptOf ⟦<dyn Framer as Framer>⟧ x calls to.old piece ms →
         IsLacking (decoding_of (is_stream to.old.stack) (layers_of ⟦<dyn Framer as Framer>⟧ to.old.chain)) piece needs
         (pieces_read (calls_on x.to.socket calls)) to.old.receiver.ended (unread_of to.old.receiver.source) ms →
         length ms < needs →
@@ -78,15 +68,8 @@ pub fn ask_in_turn<N: Reporting, S: Open>(
         (unread_of to.new.receiver.source)) }
     ensures still { result ≡ Ok Asked.Nothing →
         count_given (unread_of to.new.receiver.source) ≡ count_given (unread_of to.old.receiver.source) }
-    ensures changes { Changes to.old.socket 1 (N.net net.old) (N.net net.new) }
-    ensures spare { IfCame result ((N.net net.old).spare + one_unless to.new.receiver.ended ≤
-        (N.net net.new).spare + one_unless to.old.receiver.ended) }
-    ensures sound { IsSoundReceiver ⟦<dyn Framer as Framer>⟧ to.old.stack
-        (layers_of ⟦<dyn Framer as Framer>⟧ to.old.chain) to.new.receiver }
-    ensures held { IfCame result (IsHeld (N.net net.new).trace to.old.socket (is_stream to.old.stack)
-        to.old.sender.shut to.new.receiver.ended) }
-    ensures kept { to.new ≡ record to.old { receiver = to.new.receiver; sender = to.new.sender } }
-    ensures sender { to.new.sender ≡ record to.old.sender { moment = to.new.sender.moment } }
+    ensures once { HasAskedOnce ⟦<dyn Framer as Framer>⟧ to.old to.new (N.net net.old) (N.net net.new)
+        (IfCame result) }
 {
     let until = soon(net.told(), deadline);
     let pulled = ask_once(to, until, net);
@@ -134,36 +117,20 @@ pub fn hear_in_turn<N: Reporting, S: Open>(
     heard: &mut Vec<Body>,
 ) -> Result<In, NoMemory>
     requires framers { AreFramers (layers_of ⟦<dyn Framer as Framer>⟧ to.old.chain) }
-    requires sound { IsSoundReceiver ⟦<dyn Framer as Framer>⟧ to.old.stack
-        (layers_of ⟦<dyn Framer as Framer>⟧ to.old.chain) to.old.receiver }
-    requires held { IsHeld (N.net net.old).trace to.old.socket (is_stream to.old.stack) to.old.sender.shut
-        to.old.receiver.ended }
+    requires asks { MayAsk ⟦<dyn Framer as Framer>⟧ to.old (N.net net.old) deadline }
     requires few { needs ≤ 256 }
-    requires spare { 1 ≤ (N.net net.old).spare }
-    requires deadline { deadline < 2 ^ 63 }
-    requires some { (N.net net.old).trace ≢ [] }
     ensures heard { (x : Ends) (calls : List Call) (others : Turn) (piece more : ℕ) →
-        IsEnd x (is_stream to.old.stack) (layers_of ⟦<dyn Framer as Framer>⟧ to.old.chain) to.old.socket piece
-        deadline →
+        IsAcceptedEnd ⟦<dyn Framer as Framer>⟧ x to.old piece deadline →
         IsToHear x calls others more needs (N.net net.old).told →
         more ≡ one_true waits →
-        IsKept x calls (is_stream to.old.stack) (layers_of ⟦<dyn Framer as Framer>⟧ to.old.chain) piece
-        to.old.receiver.ended (unread_of to.old.receiver.source) heard.old.items →
-        HasAsked N.Becomes x calls net.old net.new (λ later.
-        IsInIf x calls later (is_stream to.old.stack) (layers_of ⟦<dyn Framer as Framer>⟧ to.old.chain) piece more needs
-        result to.new.receiver.ended (unread_of to.new.receiver.source) heard.new.items) }
+        IsKeptOf ⟦<dyn Framer as Framer>⟧ x calls to.old piece heard.old.items →
+        HasHeardOnce ⟦<dyn Framer as Framer>⟧ N.Becomes x calls to.old net.old net.new piece more needs result
+        to.new.receiver heard.new.items }
     ensures sooner { IsInSooner needs waits deadline (N.net net.old).told (N.net net.new).told result
         to.old.receiver.ended (unread_of to.old.receiver.source) to.new.receiver.ended
         (unread_of to.new.receiver.source) }
-    ensures changes { Changes to.old.socket 1 (N.net net.old) (N.net net.new) }
-    ensures spare { IfInGoesOn result ((N.net net.old).spare + one_unless to.new.receiver.ended ≤
-        (N.net net.new).spare + one_unless to.old.receiver.ended) }
-    ensures sound { IsSoundReceiver ⟦<dyn Framer as Framer>⟧ to.old.stack
-        (layers_of ⟦<dyn Framer as Framer>⟧ to.old.chain) to.new.receiver }
-    ensures held { IfInGoesOn result (IsHeld (N.net net.new).trace to.old.socket (is_stream to.old.stack)
-        to.old.sender.shut to.new.receiver.ended) }
-    ensures kept { to.new ≡ record to.old { receiver = to.new.receiver; sender = to.new.sender } }
-    ensures sender { to.new.sender ≡ record to.old.sender { moment = to.new.sender.moment } }
+    ensures once { HasAskedOnce ⟦<dyn Framer as Framer>⟧ to.old to.new (N.net net.old) (N.net net.new)
+        (IfInGoesOn result) }
 {
     match look_for(to, needs, heard) {
         Ok(Look::Enough) => Ok(In::Enough),
@@ -185,43 +152,27 @@ fn read_on<N: Reporting, S: Open>(
     requires framers { AreFramers (layers_of ⟦<dyn Framer as Framer>⟧ to.old.chain) }
     requires wanting { IsWanting (unread_of to.old.receiver.source) }
     requires goes_on { to.old.receiver.ended ≡ false }
-    requires sound { IsSoundReceiver ⟦<dyn Framer as Framer>⟧ to.old.stack
-        (layers_of ⟦<dyn Framer as Framer>⟧ to.old.chain) to.old.receiver }
-    requires held { IsHeld (N.net net.old).trace to.old.socket (is_stream to.old.stack) to.old.sender.shut
-        to.old.receiver.ended }
+    requires asks { MayAsk ⟦<dyn Framer as Framer>⟧ to.old (N.net net.old) deadline }
     requires few { needs ≤ 256 }
     requires less { count_given (unread_of to.old.receiver.source) < needs }
-    requires spare { 1 ≤ (N.net net.old).spare }
-    requires deadline { deadline < 2 ^ 63 }
-    requires some { (N.net net.old).trace ≢ [] }
     ensures heard { (x : Ends) (calls : List Call) (others : Turn) (piece more : ℕ) →
-        IsEnd x (is_stream to.old.stack) (layers_of ⟦<dyn Framer as Framer>⟧ to.old.chain) to.old.socket piece
-        deadline →
+        IsAcceptedEnd ⟦<dyn Framer as Framer>⟧ x to.old piece deadline →
         IsToHear x calls others more needs (N.net net.old).told →
         more ≡ one_true waits →
-        IsKept x calls (is_stream to.old.stack) (layers_of ⟦<dyn Framer as Framer>⟧ to.old.chain) piece
-        to.old.receiver.ended (unread_of to.old.receiver.source) heard.old.items →
+        IsKeptOf ⟦<dyn Framer as Framer>⟧ x calls to.old piece heard.old.items →
         IsLacking (decoding_of (is_stream to.old.stack) (layers_of ⟦<dyn Framer as Framer>⟧ to.old.chain)) piece needs
         (pieces_read (calls_on x.to.socket calls)) to.old.receiver.ended (unread_of to.old.receiver.source)
         heard.old.items →
         length heard.old.items < needs →
         AreAll (decoding_of (is_stream to.old.stack) (layers_of ⟦<dyn Framer as Framer>⟧ to.old.chain))
         (pieces_read (calls_on x.to.socket calls)) to.old.receiver.ended heard.old.items →
-        HasAsked N.Becomes x calls net.old net.new (λ later.
-        IsInIf x calls later (is_stream to.old.stack) (layers_of ⟦<dyn Framer as Framer>⟧ to.old.chain) piece more needs
-        result to.new.receiver.ended (unread_of to.new.receiver.source) heard.new.items) }
+        HasHeardOnce ⟦<dyn Framer as Framer>⟧ N.Becomes x calls to.old net.old net.new piece more needs result
+        to.new.receiver heard.new.items }
     ensures sooner { IsInSooner needs waits deadline (N.net net.old).told (N.net net.new).told result
         to.old.receiver.ended (unread_of to.old.receiver.source) to.new.receiver.ended
         (unread_of to.new.receiver.source) }
-    ensures changes { Changes to.old.socket 1 (N.net net.old) (N.net net.new) }
-    ensures spare { IfInGoesOn result ((N.net net.old).spare + one_unless to.new.receiver.ended ≤
-        (N.net net.new).spare + one_unless to.old.receiver.ended) }
-    ensures sound { IsSoundReceiver ⟦<dyn Framer as Framer>⟧ to.old.stack
-        (layers_of ⟦<dyn Framer as Framer>⟧ to.old.chain) to.new.receiver }
-    ensures held { IfInGoesOn result (IsHeld (N.net net.new).trace to.old.socket (is_stream to.old.stack)
-        to.old.sender.shut to.new.receiver.ended) }
-    ensures kept { to.new ≡ record to.old { receiver = to.new.receiver; sender = to.new.sender } }
-    ensures sender { to.new.sender ≡ record to.old.sender { moment = to.new.sender.moment } }
+    ensures once { HasAskedOnce ⟦<dyn Framer as Framer>⟧ to.old to.new (N.net net.old) (N.net net.new)
+        (IfInGoesOn result) }
 {
     match ask_in_turn(to, waits, deadline, net) {
         Ok(Asked::Came) => match look_for(to, needs, heard) {

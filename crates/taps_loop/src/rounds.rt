@@ -1,22 +1,19 @@
 // A round of the ends: the one sends, and then the other hears.
-ghost use Rattle.std.specs.Prelude.{◌≡◌, ◌≢◌, ◌≤◌, ◌<◌, ◌^◌, ◌+◌, ℕ, [], List, false};
+ghost use Rattle.std.specs.Prelude.{◌≡◌, ◌≤◌, ◌<◌, ◌^◌, ◌+◌, false};
 ghost use Rattle.taps_chain.specs.ChainLaws.{AreFramers};
 ghost use Rattle.taps_chain.specs.Layers.{layers_of};
 ghost use Rattle.taps_connection.specs.Conditions.{IsHeld};
-ghost use Rattle.taps_connection.specs.Encodings.{encoding_of};
 ghost use Rattle.taps_connection.specs.Inboxes.{IsSoundReceiver};
 ghost use Rattle.taps_connection.specs.Senders.{rest_of};
 ghost use Rattle.taps_connection.specs.Sound.{IsSound};
 ghost use Rattle.taps_connection.specs.Sources.{unread_of};
 ghost use Rattle.taps_connection.specs.Unread.{count_given};
-ghost use Rattle.taps_exchange.specs.Changes.{Changes};
 ghost use Rattle.taps_exchange.specs.Hearings.{one_unless};
 ghost use Rattle.taps_exchange.specs.Turns as exchange;
-ghost use Rattle.taps_socket.specs.Calls.{Call};
 ghost use Rattle.taps_stack.specs.StackTable.{is_stream};
-ghost use Rattle.taps_loop.specs.Hears.{IsEnd, one_true, soon_by};
-ghost use Rattle.taps_loop.specs.Loops.{Ends};
-ghost use Rattle.taps_loop.specs.Rounds.{AreEnds, AreKept, Stands, IsLast, HasRounded, rest_by, Lags, IfAgain, Moves, until_if};
+ghost use Rattle.taps_loop.specs.Connections.{MayTakeTurns, MayAsk, HasAskedOnce, GoesRound};
+ghost use Rattle.taps_loop.specs.Hears.{one_true};
+ghost use Rattle.taps_loop.specs.Rounds.{Stands, IsLast, rest_by, Lags, IfAgain, Moves, until_if};
 ghost use Rattle.taps_loop.specs.Sends.{HasGone, HasRest, waits, count_left};
 
 use crate::hearing::{In, hear_in_turn};
@@ -45,25 +42,10 @@ pub fn hear_behind<N: Reporting, S: Open, T: Open>(
     requires framers { AreFramers (layers_of ⟦<dyn Framer as Framer>⟧ to.old.chain) }
     requires sends { IsSound (is_stream from.now.stack) (layers_of ⟦<dyn Framer as Framer>⟧ from.now.chain)
         from.now.sender }
-    requires sound { IsSoundReceiver ⟦<dyn Framer as Framer>⟧ to.old.stack
-        (layers_of ⟦<dyn Framer as Framer>⟧ to.old.chain) to.old.receiver }
-    requires held { IsHeld (N.net net.old).trace to.old.socket (is_stream to.old.stack) to.old.sender.shut
-        to.old.receiver.ended }
-    requires spare { 1 ≤ (N.net net.old).spare }
-    requires deadline { deadline < 2 ^ 63 }
-    requires some { (N.net net.old).trace ≢ [] }
-    ensures rounded { (x : Ends) (calls : List Call) (piece : ℕ) →
-        AreEnds x (encoding_of (is_stream from.now.stack) (layers_of ⟦<dyn Framer as Framer>⟧ from.now.chain))
-        from.now.socket (is_stream to.old.stack) (layers_of ⟦<dyn Framer as Framer>⟧ to.old.chain) to.old.socket piece
-        deadline →
-        AreKept x calls (encoding_of (is_stream from.now.stack) (layers_of ⟦<dyn Framer as Framer>⟧ from.now.chain))
-        (is_stream to.old.stack) (layers_of ⟦<dyn Framer as Framer>⟧ to.old.chain) piece from.now.sender
-        (N.net net.old).told to.old.receiver.ended (unread_of to.old.receiver.source) heard.old.items →
-        HasGone x calls (waits from.now.sender) →
-        HasRounded N.Becomes x calls
-        (encoding_of (is_stream from.now.stack) (layers_of ⟦<dyn Framer as Framer>⟧ from.now.chain))
-        (is_stream to.old.stack) (layers_of ⟦<dyn Framer as Framer>⟧ to.old.chain) piece net.old net.new result
-        from.now.sender (N.net net.new).told to.new.receiver.ended (unread_of to.new.receiver.source) heard.new.items }
+    requires asks { MayAsk ⟦<dyn Framer as Framer>⟧ to.old (N.net net.old) deadline }
+    ensures rounded { GoesRound ⟦<dyn Framer as Framer>⟧ N.Becomes from.now to.old deadline net.old net.new
+        (N.net net.old).told heard.old.items (λ x calls. HasGone x calls (waits from.now.sender)) result
+        from.now.sender (N.net net.new).told to.new.receiver heard.new.items }
     ensures nearer { IfAgain result (λ enough.
         rest_by deadline (N.net net.new).told to.new.receiver.ended (unread_of to.new.receiver.source) ≤
         rest_by deadline (N.net net.old).told to.old.receiver.ended (unread_of to.old.receiver.source)) }
@@ -73,15 +55,8 @@ pub fn hear_behind<N: Reporting, S: Open, T: Open>(
         rest_by deadline (N.net net.old).told to.old.receiver.ended (unread_of to.old.receiver.source)) }
     ensures lags { IfAgain result (λ enough. enough ≡ false →
         count_given (unread_of to.new.receiver.source) < from.now.sender.sent + waits from.now.sender) }
-    ensures changes { Changes to.old.socket 1 (N.net net.old) (N.net net.new) }
-    ensures spare { IfAgain result (λ enough. (N.net net.old).spare + one_unless to.new.receiver.ended ≤
-        (N.net net.new).spare + one_unless to.old.receiver.ended) }
-    ensures sound { IsSoundReceiver ⟦<dyn Framer as Framer>⟧ to.old.stack
-        (layers_of ⟦<dyn Framer as Framer>⟧ to.old.chain) to.new.receiver }
-    ensures held { IfAgain result (λ enough. IsHeld (N.net net.new).trace to.old.socket (is_stream to.old.stack)
-        to.old.sender.shut to.new.receiver.ended) }
-    ensures kept { to.new ≡ record to.old { receiver = to.new.receiver; sender = to.new.sender } }
-    ensures sender { to.new.sender ≡ record to.old.sender { moment = to.new.sender.moment } }
+    ensures once { HasAskedOnce ⟦<dyn Framer as Framer>⟧ to.old to.new (N.net net.old) (N.net net.new)
+        (λ P. IfAgain result (λ enough. P)) }
 {
     let waiting = is_waiting(from);
     let needs = needed(from.sent(), waiting);
@@ -120,39 +95,17 @@ pub fn hear_last<N: Reporting, S: Open, T: Open>(
     requires framers { AreFramers (layers_of ⟦<dyn Framer as Framer>⟧ to.old.chain) }
     requires sends { IsSound (is_stream from.now.stack) (layers_of ⟦<dyn Framer as Framer>⟧ from.now.chain)
         from.now.sender }
-    requires sound { IsSoundReceiver ⟦<dyn Framer as Framer>⟧ to.old.stack
-        (layers_of ⟦<dyn Framer as Framer>⟧ to.old.chain) to.old.receiver }
-    requires held { IsHeld (N.net net.old).trace to.old.socket (is_stream to.old.stack) to.old.sender.shut
-        to.old.receiver.ended }
-    requires spare { 1 ≤ (N.net net.old).spare }
-    requires deadline { deadline < 2 ^ 63 }
-    requires some { (N.net net.old).trace ≢ [] }
-    ensures rounded { (x : Ends) (calls : List Call) (piece : ℕ) →
-        AreEnds x (encoding_of (is_stream from.now.stack) (layers_of ⟦<dyn Framer as Framer>⟧ from.now.chain))
-        from.now.socket (is_stream to.old.stack) (layers_of ⟦<dyn Framer as Framer>⟧ to.old.chain) to.old.socket piece
-        deadline →
-        AreKept x calls (encoding_of (is_stream from.now.stack) (layers_of ⟦<dyn Framer as Framer>⟧ from.now.chain))
-        (is_stream to.old.stack) (layers_of ⟦<dyn Framer as Framer>⟧ to.old.chain) piece from.now.sender
-        (N.net net.old).told to.old.receiver.ended (unread_of to.old.receiver.source) heard.old.items →
-        IsLast x calls from.now.sender heard.old.items enough →
-        HasRounded N.Becomes x calls
-        (encoding_of (is_stream from.now.stack) (layers_of ⟦<dyn Framer as Framer>⟧ from.now.chain))
-        (is_stream to.old.stack) (layers_of ⟦<dyn Framer as Framer>⟧ to.old.chain) piece net.old net.new result
-        from.now.sender (N.net net.new).told to.new.receiver.ended (unread_of to.new.receiver.source) heard.new.items }
+    requires asks { MayAsk ⟦<dyn Framer as Framer>⟧ to.old (N.net net.old) deadline }
+    ensures rounded { GoesRound ⟦<dyn Framer as Framer>⟧ N.Becomes from.now to.old deadline net.old net.new
+        (N.net net.old).told heard.old.items (λ x calls. IsLast x calls from.now.sender heard.old.items enough) result
+        from.now.sender (N.net net.new).told to.new.receiver heard.new.items }
     ensures less { IfAgain result (λ again.
         rest_by deadline (N.net net.new).told to.new.receiver.ended (unread_of to.new.receiver.source) <
         rest_by deadline (N.net net.old).told to.old.receiver.ended (unread_of to.old.receiver.source)) }
     ensures lags { IfAgain result (λ again. again ≡ false →
         count_given (unread_of to.new.receiver.source) < from.now.sender.sent) }
-    ensures changes { Changes to.old.socket 1 (N.net net.old) (N.net net.new) }
-    ensures spare { IfAgain result (λ again. (N.net net.old).spare + one_unless to.new.receiver.ended ≤
-        (N.net net.new).spare + one_unless to.old.receiver.ended) }
-    ensures sound { IsSoundReceiver ⟦<dyn Framer as Framer>⟧ to.old.stack
-        (layers_of ⟦<dyn Framer as Framer>⟧ to.old.chain) to.new.receiver }
-    ensures held { IfAgain result (λ again. IsHeld (N.net net.new).trace to.old.socket (is_stream to.old.stack)
-        to.old.sender.shut to.new.receiver.ended) }
-    ensures kept { to.new ≡ record to.old { receiver = to.new.receiver; sender = to.new.sender } }
-    ensures sender { to.new.sender ≡ record to.old.sender { moment = to.new.sender.moment } }
+    ensures once { HasAskedOnce ⟦<dyn Framer as Framer>⟧ to.old to.new (N.net net.old) (N.net net.new)
+        (λ P. IfAgain result (λ again. P)) }
 {
     if enough {
         heard.truncate(from.sent() as usize);
@@ -202,35 +155,14 @@ pub fn go_round<N: Reporting, S: Open, T: Open>(
     net: &mut N,
     heard: &mut Vec<Body>,
 ) -> Result<Round, NoMemory>
-    requires framers { AreFramers (layers_of ⟦<dyn Framer as Framer>⟧ from.old.chain) }
-    requires hearers { AreFramers (layers_of ⟦<dyn Framer as Framer>⟧ to.old.chain) }
-    requires sends { IsSound (is_stream from.old.stack) (layers_of ⟦<dyn Framer as Framer>⟧ from.old.chain)
-        from.old.sender }
-    requires holds { IsHeld (N.net net.old).trace from.old.socket (is_stream from.old.stack)
-        from.old.sender.shut from.old.receiver.ended }
+    requires may { MayTakeTurns ⟦<dyn Framer as Framer>⟧ from.old to.old (N.net net.old) deadline }
     requires room { rest_of from.old.sender ≤ ((N.net net.old).traffic from.old.socket).room }
     requires rest { HasRest from.old.sender.begun }
-    requires sound { IsSoundReceiver ⟦<dyn Framer as Framer>⟧ to.old.stack
-        (layers_of ⟦<dyn Framer as Framer>⟧ to.old.chain) to.old.receiver }
-    requires held { IsHeld (N.net net.old).trace to.old.socket (is_stream to.old.stack) to.old.sender.shut
-        to.old.receiver.ended }
-    requires apart { to.old.socket ≢ from.old.socket }
     requires lags { Lags enough from.old.sender (unread_of to.old.receiver.source) }
     requires spare { 2 ≤ (N.net net.old).spare }
-    requires deadline { deadline < 2 ^ 63 }
-    requires some { (N.net net.old).trace ≢ [] }
-    ensures rounded { (x : Ends) (calls : List Call) (piece : ℕ) →
-        AreEnds x (encoding_of (is_stream from.old.stack) (layers_of ⟦<dyn Framer as Framer>⟧ from.old.chain))
-        from.old.socket (is_stream to.old.stack) (layers_of ⟦<dyn Framer as Framer>⟧ to.old.chain) to.old.socket piece
-        deadline →
-        AreKept x calls (encoding_of (is_stream from.old.stack) (layers_of ⟦<dyn Framer as Framer>⟧ from.old.chain))
-        (is_stream to.old.stack) (layers_of ⟦<dyn Framer as Framer>⟧ to.old.chain) piece from.old.sender
-        (N.net net.old).told to.old.receiver.ended (unread_of to.old.receiver.source) heard.old.items →
-        Stands x calls from.old.sender heard.old.items enough →
-        HasRounded N.Becomes x calls
-        (encoding_of (is_stream from.old.stack) (layers_of ⟦<dyn Framer as Framer>⟧ from.old.chain))
-        (is_stream to.old.stack) (layers_of ⟦<dyn Framer as Framer>⟧ to.old.chain) piece net.old net.new result
-        from.new.sender (N.net net.new).told to.new.receiver.ended (unread_of to.new.receiver.source) heard.new.items }
+    ensures rounded { GoesRound ⟦<dyn Framer as Framer>⟧ N.Becomes from.old to.old deadline net.old net.new
+        (N.net net.old).told heard.old.items (λ x calls. Stands x calls from.old.sender heard.old.items enough) result
+        from.new.sender (N.net net.new).told to.new.receiver heard.new.items }
     ensures nearer { IfAgain result (λ again. count_left from.new.sender +
         rest_by deadline (N.net net.new).told to.new.receiver.ended (unread_of to.new.receiver.source) <
         count_left from.old.sender +

@@ -1,18 +1,16 @@
 // The ends take turns, until the exchange is over.
-ghost use Rattle.std.specs.Prelude.{◌≡◌, ◌≢◌, ◌≤◌, ◌<◌, ◌^◌, ◌+◌, ℕ, [], List, None};
+ghost use Rattle.std.specs.Prelude.{◌≡◌, ◌≤◌, ◌<◌, ◌+◌, ℕ, [], None};
 ghost use Rattle.taps_chain.specs.ChainLaws.{AreFramers};
 ghost use Rattle.taps_chain.specs.Layers.{layers_of};
-ghost use Rattle.taps_connection.specs.Conditions.{IsHeld};
 ghost use Rattle.taps_connection.specs.Encodings.{encoding_of};
 ghost use Rattle.taps_connection.specs.Inboxes.{IsSoundReceiver};
 ghost use Rattle.taps_connection.specs.Senders.{queued, rest_of};
 ghost use Rattle.taps_connection.specs.Sound.{IsSound};
 ghost use Rattle.taps_connection.specs.Sources.{unread_of};
-ghost use Rattle.taps_exchange.specs.Hearings.{one_unless};
-ghost use Rattle.taps_socket.specs.Calls.{Call};
 ghost use Rattle.taps_stack.specs.StackTable.{is_stream};
+ghost use Rattle.taps_loop.specs.Connections.{MayTakeTurns, AreEndsOf, AreKeptOf, FromFirst};
 ghost use Rattle.taps_loop.specs.Loops.{Ends};
-ghost use Rattle.taps_loop.specs.Rounds.{AreEnds, AreKept, Stands, IsRound, HasRounded, Lags, IfAgain, Moves, HasTaken, round_of};
+ghost use Rattle.taps_loop.specs.Rounds.{Stands, IsRound, Lags, IfAgain, Moves, HasTaken, round_of};
 ghost use Rattle.taps_loop.specs.Sends.{HasRest};
 
 use crate::looked::{Look, look_for};
@@ -36,12 +34,8 @@ fn first_look<S: Open, T: Open>(
     requires sound { IsSoundReceiver ⟦<dyn Framer as Framer>⟧ to.old.stack
         (layers_of ⟦<dyn Framer as Framer>⟧ to.old.chain) to.old.receiver }
     ensures starts { (x : Ends) (piece deadline told : ℕ) →
-        AreEnds x (encoding_of (is_stream from.now.stack) (layers_of ⟦<dyn Framer as Framer>⟧ from.now.chain))
-        from.now.socket (is_stream to.old.stack) (layers_of ⟦<dyn Framer as Framer>⟧ to.old.chain) to.old.socket piece
-        deadline →
-        AreKept x [] (encoding_of (is_stream from.now.stack) (layers_of ⟦<dyn Framer as Framer>⟧ from.now.chain))
-        (is_stream to.old.stack) (layers_of ⟦<dyn Framer as Framer>⟧ to.old.chain) piece from.now.sender told
-        to.old.receiver.ended (unread_of to.old.receiver.source) heard.old.items →
+        AreEndsOf ⟦<dyn Framer as Framer>⟧ x from.now to.old piece deadline →
+        AreKeptOf ⟦<dyn Framer as Framer>⟧ x [] from.now to.old piece told heard.old.items →
         x.from.messages ≡ queued from.now.sender →
         IsRound x [] (encoding_of (is_stream from.now.stack) (layers_of ⟦<dyn Framer as Framer>⟧ from.now.chain))
         (is_stream to.old.stack) (layers_of ⟦<dyn Framer as Framer>⟧ to.old.chain) piece from.now.sender told
@@ -79,32 +73,14 @@ fn go_rounds<N: Reporting, S: Open, T: Open>(
     net: &mut N,
     heard: &mut Vec<Body>,
 ) -> Result<Outcome, NoMemory>
-    requires framers { AreFramers (layers_of ⟦<dyn Framer as Framer>⟧ from.old.chain) }
-    requires hearers { AreFramers (layers_of ⟦<dyn Framer as Framer>⟧ to.old.chain) }
-    requires sends { IsSound (is_stream from.old.stack) (layers_of ⟦<dyn Framer as Framer>⟧ from.old.chain)
-        from.old.sender }
-    requires holds { IsHeld (N.net net.old).trace from.old.socket (is_stream from.old.stack)
-        from.old.sender.shut from.old.receiver.ended }
+    requires may { MayTakeTurns ⟦<dyn Framer as Framer>⟧ from.old to.old (N.net net.old) deadline }
     requires room { rest_of from.old.sender ≤ ((N.net net.old).traffic from.old.socket).room }
     requires rest { HasRest from.old.sender.begun }
-    requires sound { IsSoundReceiver ⟦<dyn Framer as Framer>⟧ to.old.stack
-        (layers_of ⟦<dyn Framer as Framer>⟧ to.old.chain) to.old.receiver }
-    requires held { IsHeld (N.net net.old).trace to.old.socket (is_stream to.old.stack) to.old.sender.shut
-        to.old.receiver.ended }
-    requires apart { to.old.socket ≢ from.old.socket }
     requires lags { Lags first from.old.sender (unread_of to.old.receiver.source) }
     requires spare { 4 ≤ (N.net net.old).spare }
-    requires deadline { deadline < 2 ^ 63 }
-    requires some { (N.net net.old).trace ≢ [] }
-    ensures taken { (x : Ends) (piece : ℕ) →
-        AreEnds x (encoding_of (is_stream from.old.stack) (layers_of ⟦<dyn Framer as Framer>⟧ from.old.chain))
-        from.old.socket (is_stream to.old.stack) (layers_of ⟦<dyn Framer as Framer>⟧ to.old.chain) to.old.socket piece
-        deadline →
-        AreKept x [] (encoding_of (is_stream from.old.stack) (layers_of ⟦<dyn Framer as Framer>⟧ from.old.chain))
-        (is_stream to.old.stack) (layers_of ⟦<dyn Framer as Framer>⟧ to.old.chain) piece from.old.sender
-        (N.net net.old).told to.old.receiver.ended (unread_of to.old.receiver.source) heard.old.items →
-        Stands x [] from.old.sender heard.old.items first →
-        HasTaken N.Becomes x net.old net.new result from.new.sender.sent heard.new.items }
+    ensures taken { FromFirst ⟦<dyn Framer as Framer>⟧ from.old to.old deadline (N.net net.old).told heard.old.items
+        (λ x. Stands x [] from.old.sender heard.old.items first)
+        (λ x. HasTaken N.Becomes x net.old net.new result from.new.sender.sent heard.new.items) }
     ensures moves { Moves from.old.socket to.old.socket (N.net net.old) (N.net net.new) }
     ensures spent { (N.net net.old).spare ≤ (N.net net.new).spare + 4 }
     ensures sender_kept { from.new ≡ record from.old { sender = from.new.sender } }
@@ -128,30 +104,12 @@ pub fn take_turns<N: Reporting, S: Open, T: Open>(
     net: &mut N,
     heard: &mut Vec<Body>,
 ) -> Result<Outcome, NoMemory>
-    requires framers { AreFramers (layers_of ⟦<dyn Framer as Framer>⟧ from.old.chain) }
-    requires hearers { AreFramers (layers_of ⟦<dyn Framer as Framer>⟧ to.old.chain) }
-    requires sends { IsSound (is_stream from.old.stack) (layers_of ⟦<dyn Framer as Framer>⟧ from.old.chain)
-        from.old.sender }
+    requires may { MayTakeTurns ⟦<dyn Framer as Framer>⟧ from.old to.old (N.net net.old) deadline }
     requires none { from.old.sender.begun ≡ None }
-    requires holds { IsHeld (N.net net.old).trace from.old.socket (is_stream from.old.stack)
-        from.old.sender.shut from.old.receiver.ended }
-    requires sound { IsSoundReceiver ⟦<dyn Framer as Framer>⟧ to.old.stack
-        (layers_of ⟦<dyn Framer as Framer>⟧ to.old.chain) to.old.receiver }
-    requires held { IsHeld (N.net net.old).trace to.old.socket (is_stream to.old.stack) to.old.sender.shut
-        to.old.receiver.ended }
-    requires apart { to.old.socket ≢ from.old.socket }
     requires spare { 4 ≤ (N.net net.old).spare }
-    requires deadline { deadline < 2 ^ 63 }
-    requires some { (N.net net.old).trace ≢ [] }
-    ensures taken { (x : Ends) (piece : ℕ) →
-        AreEnds x (encoding_of (is_stream from.old.stack) (layers_of ⟦<dyn Framer as Framer>⟧ from.old.chain))
-        from.old.socket (is_stream to.old.stack) (layers_of ⟦<dyn Framer as Framer>⟧ to.old.chain) to.old.socket piece
-        deadline →
-        AreKept x [] (encoding_of (is_stream from.old.stack) (layers_of ⟦<dyn Framer as Framer>⟧ from.old.chain))
-        (is_stream to.old.stack) (layers_of ⟦<dyn Framer as Framer>⟧ to.old.chain) piece from.old.sender
-        (N.net net.old).told to.old.receiver.ended (unread_of to.old.receiver.source) heard.old.items →
-        x.from.messages ≡ queued from.old.sender →
-        HasTaken N.Becomes x net.old net.new result from.new.sender.sent heard.new.items }
+    ensures taken { FromFirst ⟦<dyn Framer as Framer>⟧ from.old to.old deadline (N.net net.old).told heard.old.items
+        (λ x. x.from.messages ≡ queued from.old.sender)
+        (λ x. HasTaken N.Becomes x net.old net.new result from.new.sender.sent heard.new.items) }
     ensures moves { Moves from.old.socket to.old.socket (N.net net.old) (N.net net.new) }
     ensures spent { (N.net net.old).spare ≤ (N.net net.new).spare + 4 }
     ensures sender_kept { from.new ≡ record from.old { sender = from.new.sender } }

@@ -15,19 +15,19 @@ use Rattle.taps_loop.proofs.both.exchange_open.Goals as goal
 
 pub abort_both-requires-clause-first : goal.abort_both-requires-clause-first
 abort_both-requires-clause-first g c =
-    subst (λ z. has (live_sockets (g.N.Sockets.net c.take_turns.new.net).trace) z.socket ≡ true) (sym c.in-Ok.ensures.sender_kept) (ap (λ v. has v c.args.from.socket) (live_moves c.args.from.socket c.args.to.socket (g.N.Sockets.net c.args.net.now) (g.N.Sockets.net c.take_turns.new.net) c.in-Ok.ensures.moves) ∙ live_of (g.N.Sockets.net c.args.net.now).trace c.args.from.socket c.requires.holds.connected)
+    subst (λ z. has (live_sockets (g.N.Sockets.net c.take_turns.new.net).trace) z.socket ≡ true) (sym c.in-Ok.ensures.sender_kept) (ap (λ v. has v c.args.from.socket) (live_moves c.args.from.socket c.args.to.socket (g.N.Sockets.net c.args.net.now) (g.N.Sockets.net c.take_turns.new.net) c.in-Ok.ensures.moves) ∙ live_of (g.N.Sockets.net c.args.net.now).trace c.args.from.socket c.requires.may.holds.connected)
 
 pub abort_both-requires-clause-second : goal.abort_both-requires-clause-second
 abort_both-requires-clause-second g c =
-    subst (λ z. has (live_sockets (g.N.Sockets.net c.take_turns.new.net).trace) z.socket ≡ true) (sym c.in-Ok.ensures.kept) (ap (λ v. has v c.args.to.socket) (live_moves c.args.from.socket c.args.to.socket (g.N.Sockets.net c.args.net.now) (g.N.Sockets.net c.take_turns.new.net) c.in-Ok.ensures.moves) ∙ live_of (g.N.Sockets.net c.args.net.now).trace c.args.to.socket c.requires.held.connected)
+    subst (λ z. has (live_sockets (g.N.Sockets.net c.take_turns.new.net).trace) z.socket ≡ true) (sym c.in-Ok.ensures.kept) (ap (λ v. has v c.args.to.socket) (live_moves c.args.from.socket c.args.to.socket (g.N.Sockets.net c.args.net.now) (g.N.Sockets.net c.take_turns.new.net) c.in-Ok.ensures.moves) ∙ live_of (g.N.Sockets.net c.args.net.now).trace c.args.to.socket c.requires.may.held.connected)
 
 pub abort_both-requires-in-Err-clause-first : goal.abort_both-requires-in-Err-clause-first
 abort_both-requires-in-Err-clause-first g c =
-    subst (λ z. has (live_sockets (g.N.Sockets.net c.take_turns.new.net).trace) z.socket ≡ true) (sym c.in-Err.ensures.sender_kept) (ap (λ v. has v c.args.from.socket) (live_moves c.args.from.socket c.args.to.socket (g.N.Sockets.net c.args.net.now) (g.N.Sockets.net c.take_turns.new.net) c.in-Err.ensures.moves) ∙ live_of (g.N.Sockets.net c.args.net.now).trace c.args.from.socket c.requires.holds.connected)
+    subst (λ z. has (live_sockets (g.N.Sockets.net c.take_turns.new.net).trace) z.socket ≡ true) (sym c.in-Err.ensures.sender_kept) (ap (λ v. has v c.args.from.socket) (live_moves c.args.from.socket c.args.to.socket (g.N.Sockets.net c.args.net.now) (g.N.Sockets.net c.take_turns.new.net) c.in-Err.ensures.moves) ∙ live_of (g.N.Sockets.net c.args.net.now).trace c.args.from.socket c.requires.may.holds.connected)
 
 pub abort_both-requires-in-Err-clause-second : goal.abort_both-requires-in-Err-clause-second
 abort_both-requires-in-Err-clause-second g c =
-    subst (λ z. has (live_sockets (g.N.Sockets.net c.take_turns.new.net).trace) z.socket ≡ true) (sym c.in-Err.ensures.kept) (ap (λ v. has v c.args.to.socket) (live_moves c.args.from.socket c.args.to.socket (g.N.Sockets.net c.args.net.now) (g.N.Sockets.net c.take_turns.new.net) c.in-Err.ensures.moves) ∙ live_of (g.N.Sockets.net c.args.net.now).trace c.args.to.socket c.requires.held.connected)
+    subst (λ z. has (live_sockets (g.N.Sockets.net c.take_turns.new.net).trace) z.socket ≡ true) (sym c.in-Err.ensures.kept) (ap (λ v. has v c.args.to.socket) (live_moves c.args.from.socket c.args.to.socket (g.N.Sockets.net c.args.net.now) (g.N.Sockets.net c.take_turns.new.net) c.in-Err.ensures.moves) ∙ live_of (g.N.Sockets.net c.args.net.now).trace c.args.to.socket c.requires.may.held.connected)
 
 pub returns-in-Ok-clause-closed : goal.returns-in-Ok-clause-closed
 returns-in-Ok-clause-closed g c =

@@ -14,7 +14,7 @@ returns-in-Ok-clause-heard g c =
     λ x calls others piece more fixed start is before lack few all.
     let asked = subst (λ a. HasAsked g.N.Sockets.Becomes x calls c.args.net.now c.ask_in_turn.new.net (λ later. IsReadIf x calls later (is_stream c.args.to.now.stack) (layers_of (λ vtable. (g.dyn-1.0.entry vtable).1) c.args.to.now.chain) piece more c.args.needs (Ok a) c.ask_in_turn.new.to.receiver.ended (unread_of c.ask_in_turn.new.to.receiver.source) c.args.heard.now.items)) c.in-Ok-Came.field-0-is (c.in-Ok-Came.ensures.read x calls others piece more c.args.needs c.args.heard.now.items fixed start is before lack few all) in
     let looked = subst (λ z. (piece : ℕ) (read : List (List ℕ)) → IsReceiving (is_stream z.stack) (layers_of (λ vtable. (g.dyn-1.0.entry vtable).1) z.chain) piece c.ask_in_turn.new.to.receiver.ended (unread_of c.ask_in_turn.new.to.receiver.source) read c.args.heard.now.items →
-    HasLooked (is_stream z.stack) (layers_of (λ vtable. (g.dyn-1.0.entry vtable).1) z.chain) piece c.args.needs read c.ask_in_turn.new.to.receiver.ended (Ok c.in-Ok.found) (unread_of c.look_for.new.connection.receiver.source) c.look_for.new.heard.items) c.in-Ok-Came.ensures.kept c.in-Ok.ensures.looked in
+    HasLooked (is_stream z.stack) (layers_of (λ vtable. (g.dyn-1.0.entry vtable).1) z.chain) piece c.args.needs read c.ask_in_turn.new.to.receiver.ended (Ok c.in-Ok.found) (unread_of c.look_for.new.connection.receiver.source) c.look_for.new.heard.items) c.in-Ok-Came.ensures.once.kept c.in-Ok.ensures.looked in
     let found = looked piece (pieces_read (calls_on x.to.socket (asked.later ++ calls))) asked.then_so.kept.receiving in
     let so = found_in x calls asked.later (is_stream c.args.to.now.stack) (layers_of (λ vtable. (g.dyn-1.0.entry vtable).1) c.args.to.now.chain) c.args.to.now.socket piece c.args.deadline more c.args.needs c.ask_in_turn.new.to.receiver.ended (unread_of c.ask_in_turn.new.to.receiver.source) (unread_of c.look_for.new.connection.receiver.source) c.args.heard.now.items c.look_for.new.heard.items c.in-Ok.found fixed start.needs_is asked.elsewhere asked.then_so found in
     record {

@@ -1,4 +1,4 @@
-use Rattle.std.proofs.Common.{◌≡◌, ◌∷◌, ◌++◌, true, false, refl, sym, ap, subst, ◌∙◌}
+use Rattle.std.proofs.Common.{◌≡◌, ◌∷◌, ◌++◌, true, false, refl, sym, ap, subst, ◌∙◌, arith}
 use Rattle.taps_chain.specs.Layers.{layers_of}
 use Rattle.taps_stack.specs.StackTable.{is_stream}
 use Rattle.taps_socket.specs.declared.item.Item.TheVariants as item
@@ -10,23 +10,30 @@ use Rattle.taps_connection.specs.ListenerStates.{ListenerState}
 use Rattle.taps_exchange.proofs.Behind.{live_of}
 use Rattle.taps_loop.specs.Looped.{deadline_by, ends_over}
 use Rattle.taps_loop.proofs.Closings.{live_closed}
-use Rattle.taps_loop.proofs.Acceptings.{live_named, not_new, held_accepted, held_behind, live_looped, may_live}
+use Rattle.taps_loop.proofs.Acceptings.{live_named, not_new, held_accepted, held_behind, live_looped, may_live, some_items}
 use Rattle.taps_loop.proofs.Loopings.{looped_ok, looped_cut, looped_timed, looped_faulted}
 use Rattle.taps_loop.proofs.looped.loop_over.Goals as goal
 
-pub exchange_both-exchanged-requires-clause-holds : goal.exchange_both-exchanged-requires-clause-holds
-exchange_both-exchanged-requires-clause-holds g c =
-    subst (λ t. IsHeld t c.args.socket (is_stream c.args.stack) false false) (sym (ap (λ (v : Net). v.trace) c.in-Accepted.ensures.0.changed))
-    (held_behind c.args.listener.socket c.in-Accepted.to c.in-Accepted.at c.args.socket (g.N.Sockets.net c.args.net.now).trace (is_stream c.args.stack) false false c.requires.apart (not_new c.args.socket c.in-Accepted.to (g.N.Sockets.net c.args.net.now).trace c.in-Accepted.ensures.0.answered.number (live_named (g.N.Sockets.net c.args.net.now).trace c.args.socket (live_of (g.N.Sockets.net c.args.net.now).trace c.args.socket c.requires.held.connected))) c.requires.held)
-
-pub exchange_both-exchanged-requires-clause-held : goal.exchange_both-exchanged-requires-clause-held
-exchange_both-exchanged-requires-clause-held g c =
+pub exchange_both-exchanged-requires : goal.exchange_both-exchanged-requires
+exchange_both-exchanged-requires g c =
+    let changed = c.in-Accepted.ensures.0.changed in
+    let held : IsHeld (g.N.Sockets.net c.accept.new.net).trace c.in-Accepted.to (is_stream c.args.accepting) false false =
     subst (λ t. IsHeld t c.in-Accepted.to (is_stream c.args.accepting) false false) (sym (ap (λ (v : Net). v.trace) c.in-Accepted.ensures.0.changed))
-    (subst (λ b. IsHeld (item.Accepted c.args.listener.socket c.in-Accepted.to c.in-Accepted.at ∷ (g.N.Sockets.net c.args.net.now).trace) c.in-Accepted.to b false false) (sym c.requires.stream) (held_accepted c.args.listener.socket c.in-Accepted.to c.in-Accepted.at (g.N.Sockets.net c.args.net.now).trace c.in-Accepted.ensures.0.answered.number c.requires.carries))
-
-pub exchange_both-exchanged-requires-clause-apart : goal.exchange_both-exchanged-requires-clause-apart
-exchange_both-exchanged-requires-clause-apart g c =
-    λ e. (not_new c.args.socket c.in-Accepted.to (g.N.Sockets.net c.args.net.now).trace c.in-Accepted.ensures.0.answered.number (live_named (g.N.Sockets.net c.args.net.now).trace c.args.socket (live_of (g.N.Sockets.net c.args.net.now).trace c.args.socket c.requires.held.connected))) (sym e)
+    (subst (λ b. IsHeld (item.Accepted c.args.listener.socket c.in-Accepted.to c.in-Accepted.at ∷ (g.N.Sockets.net c.args.net.now).trace) c.in-Accepted.to b false false) (sym c.requires.stream) (held_accepted c.args.listener.socket c.in-Accepted.to c.in-Accepted.at (g.N.Sockets.net c.args.net.now).trace c.in-Accepted.ensures.0.answered.number c.requires.carries)) in
+    record {
+      ready = record {
+        piece_some = c.requires.some;
+        piece_few = c.requires.few;
+        holds = subst (λ t. IsHeld t c.args.socket (is_stream c.args.stack) false false) (sym (ap (λ (v : Net). v.trace) c.in-Accepted.ensures.0.changed))
+            (held_behind c.args.listener.socket c.in-Accepted.to c.in-Accepted.at c.args.socket (g.N.Sockets.net c.args.net.now).trace (is_stream c.args.stack) false false c.requires.apart (not_new c.args.socket c.in-Accepted.to (g.N.Sockets.net c.args.net.now).trace c.in-Accepted.ensures.0.answered.number (live_named (g.N.Sockets.net c.args.net.now).trace c.args.socket (live_of (g.N.Sockets.net c.args.net.now).trace c.args.socket c.requires.held.connected))) c.requires.held);
+        held = held;
+        apart = λ e. (not_new c.args.socket c.in-Accepted.to (g.N.Sockets.net c.args.net.now).trace c.in-Accepted.ensures.0.answered.number (live_named (g.N.Sockets.net c.args.net.now).trace c.args.socket (live_of (g.N.Sockets.net c.args.net.now).trace c.args.socket c.requires.held.connected))) (sym e);
+        told = ap (λ (v : Net). v.told) changed;
+        spare = (let before = c.requires.spare in let left = ap (λ (v : Net). v.spare) changed in omega (arith, before, left));
+        bounded = c.deadline.ensures.bounded;
+        some = some_items (g.N.Sockets.net c.accept.new.net).trace c.in-Accepted.to (is_stream c.args.accepting) false false held;
+      };
+    }
 
 pub stop-requires-clause-live : goal.stop-requires-clause-live
 stop-requires-clause-live g c =

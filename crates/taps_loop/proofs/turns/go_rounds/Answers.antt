@@ -1,8 +1,7 @@
-use Rattle.std.proofs.Common.{◌≤◌, ◌+◌, ℕ, List, subst, arith}
+use Rattle.std.proofs.Common.{◌≤◌, ◌+◌, sym, subst, arith}
 use Rattle.std.specs.Prelude.{Ok, Err}
 use Rattle.taps_chain.specs.Layers.{layers_of}
 use Rattle.taps_stack.specs.StackTable.{is_stream}
-use Rattle.taps_socket.specs.Calls.{Call}
 use Rattle.taps_connection.specs.declared.sender.Sender.{Sender}
 use Rattle.taps_connection.specs.Conditions.{IsHeld}
 use Rattle.taps_connection.specs.Encodings.{encoding_of}
@@ -13,11 +12,30 @@ use Rattle.taps_connection.specs.Sources.{unread_of}
 use Rattle.taps_exchange.specs.Hearings.{one_unless}
 use Rattle.taps_exchange.proofs.HearingOn.{kept_both, sender_both}
 use Rattle.taps_exchange.proofs.SendingAll.{kept_on}
-use Rattle.taps_loop.specs.Loops.{Ends}
-use Rattle.taps_loop.specs.Rounds.{AreEnds, AreKept, Stands, HasRounded, IfAgain, Lags, Moves}
+use Rattle.taps_loop.specs.Connections.{MayTakeTurns}
+use Rattle.taps_loop.specs.Rounds.{Stands, HasRounded, IfAgain, Lags, Moves}
+use Rattle.taps_loop.proofs.Acceptings.{some_items}
 use Rattle.taps_loop.proofs.Moving.{moves_on}
-use Rattle.taps_loop.proofs.Going.{goes_again, goes_over, goes_short}
+use Rattle.taps_loop.proofs.Going.{goes_again, goes_over, goes_short, rounds_on}
 use Rattle.taps_loop.proofs.turns.go_rounds.Goals as goal
+
+pub go_round-requires-clause-may : goal.go_round-requires-clause-may
+go_round-requires-clause-may g c =
+    let i = c.turns.invariant in
+    let trace = (g.N.Sockets.net c.turns.net).trace in
+    subst (λ z. MayTakeTurns (λ vtable. (g.dyn-1.0.entry vtable).1) z c.turns.to (g.N.Sockets.net c.turns.net) c.args.deadline) (sym i.sender_kept)
+    (subst (λ z. MayTakeTurns (λ vtable. (g.dyn-1.0.entry vtable).1) (record c.args.from.now { sender = c.turns.from.sender }) z (g.N.Sockets.net c.turns.net) c.args.deadline) (sym i.kept)
+    (record {
+      framers = c.requires.may.framers;
+      hearers = c.requires.may.hearers;
+      sends = i.sends;
+      holds = i.holds;
+      sound = i.sound;
+      held = subst (λ (z : Sender). IsHeld trace c.args.to.now.socket (is_stream c.args.to.now.stack) z.shut c.turns.to.receiver.ended) (sym i.moment) i.held;
+      apart = c.requires.may.apart;
+      bounded = c.requires.may.bounded;
+      some = some_items trace c.args.to.now.socket (is_stream c.args.to.now.stack) c.args.to.now.sender.shut c.turns.to.receiver.ended i.held;
+    }))
 
 pub turns-preserved : goal.turns-preserved
 turns-preserved g c =
@@ -26,7 +44,7 @@ turns-preserved g c =
     record {
       goes = λ x piece ends kept stands.
           let k = i.goes x piece ends kept stands in
-          let rounded = subst (λ z. (x : Ends) (calls : List Call) (piece : ℕ) → AreEnds x (encoding_of (is_stream c.args.from.now.stack) (layers_of (λ vtable. (g.dyn-1.0.entry vtable).1) c.args.from.now.chain)) c.args.from.now.socket (is_stream z.stack) (layers_of (λ vtable. (g.dyn-1.0.entry vtable).1) z.chain) z.socket piece c.args.deadline → AreKept x calls (encoding_of (is_stream c.args.from.now.stack) (layers_of (λ vtable. (g.dyn-1.0.entry vtable).1) c.args.from.now.chain)) (is_stream z.stack) (layers_of (λ vtable. (g.dyn-1.0.entry vtable).1) z.chain) piece c.turns.from.sender (g.N.Sockets.net c.turns.net).told c.turns.to.receiver.ended (unread_of c.turns.to.receiver.source) c.turns.heard.items → Stands x calls c.turns.from.sender c.turns.heard.items c.turns.enough → HasRounded g.N.Sockets.Becomes x calls (encoding_of (is_stream c.args.from.now.stack) (layers_of (λ vtable. (g.dyn-1.0.entry vtable).1) c.args.from.now.chain)) (is_stream z.stack) (layers_of (λ vtable. (g.dyn-1.0.entry vtable).1) z.chain) piece c.turns.net c.go_round.new.net (Ok c.in-Ok-Again.field-0) c.go_round.new.from.sender (g.N.Sockets.net c.go_round.new.net).told c.go_round.new.to.receiver.ended (unread_of c.go_round.new.to.receiver.source) c.go_round.new.heard.items) i.kept (subst (λ z. (x : Ends) (calls : List Call) (piece : ℕ) → AreEnds x (encoding_of (is_stream z.stack) (layers_of (λ vtable. (g.dyn-1.0.entry vtable).1) z.chain)) z.socket (is_stream c.turns.to.stack) (layers_of (λ vtable. (g.dyn-1.0.entry vtable).1) c.turns.to.chain) c.turns.to.socket piece c.args.deadline → AreKept x calls (encoding_of (is_stream z.stack) (layers_of (λ vtable. (g.dyn-1.0.entry vtable).1) z.chain)) (is_stream c.turns.to.stack) (layers_of (λ vtable. (g.dyn-1.0.entry vtable).1) c.turns.to.chain) piece c.turns.from.sender (g.N.Sockets.net c.turns.net).told c.turns.to.receiver.ended (unread_of c.turns.to.receiver.source) c.turns.heard.items → Stands x calls c.turns.from.sender c.turns.heard.items c.turns.enough → HasRounded g.N.Sockets.Becomes x calls (encoding_of (is_stream z.stack) (layers_of (λ vtable. (g.dyn-1.0.entry vtable).1) z.chain)) (is_stream c.turns.to.stack) (layers_of (λ vtable. (g.dyn-1.0.entry vtable).1) c.turns.to.chain) piece c.turns.net c.go_round.new.net (Ok c.in-Ok-Again.field-0) c.go_round.new.from.sender (g.N.Sockets.net c.go_round.new.net).told c.go_round.new.to.receiver.ended (unread_of c.go_round.new.to.receiver.source) c.go_round.new.heard.items) i.sender_kept c.in-Ok-Again.ensures.rounded) in
+          let rounded = rounds_on (λ vtable. (g.dyn-1.0.entry vtable).1) g.N.Sockets.Becomes c.args.from.now c.turns.from c.args.to.now c.turns.to c.args.deadline c.turns.net c.go_round.new.net (g.N.Sockets.net c.turns.net).told c.turns.heard.items (λ x calls. Stands x calls c.turns.from.sender c.turns.heard.items c.turns.enough) (Ok c.in-Ok-Again.field-0) c.go_round.new.from.sender (g.N.Sockets.net c.go_round.new.net).told c.go_round.new.to.receiver c.go_round.new.heard.items i.sender_kept i.kept c.in-Ok-Again.ensures.rounded in
           goes_again g.N.Sockets.Becomes x (encoding_of (is_stream c.args.from.now.stack) (layers_of (λ vtable. (g.dyn-1.0.entry vtable).1) c.args.from.now.chain)) (is_stream c.args.to.now.stack) (layers_of (λ vtable. (g.dyn-1.0.entry vtable).1) c.args.to.now.chain) piece c.args.net.now c.turns.net c.go_round.new.net c.turns.from.sender c.go_round.new.from.sender (g.N.Sockets.net c.turns.net).told (g.N.Sockets.net c.go_round.new.net).told c.turns.to.receiver.ended c.go_round.new.to.receiver.ended (unread_of c.turns.to.receiver.source) (unread_of c.go_round.new.to.receiver.source) c.turns.heard.items c.go_round.new.heard.items c.turns.enough g.met.N.Sockets.becomes_on k c.in-Ok-Again.again (subst (λ r. HasRounded g.N.Sockets.Becomes x k.calls (encoding_of (is_stream c.args.from.now.stack) (layers_of (λ vtable. (g.dyn-1.0.entry vtable).1) c.args.from.now.chain)) (is_stream c.args.to.now.stack) (layers_of (λ vtable. (g.dyn-1.0.entry vtable).1) c.args.to.now.chain) piece c.turns.net c.go_round.new.net (Ok r) c.go_round.new.from.sender (g.N.Sockets.net c.go_round.new.net).told c.go_round.new.to.receiver.ended (unread_of c.go_round.new.to.receiver.source) c.go_round.new.heard.items) c.in-Ok-Again.field-0-is (rounded x k.calls piece ends k.kept k.stands));
       sends = subst (λ z. IsSound (is_stream z.stack) (layers_of (λ vtable. (g.dyn-1.0.entry vtable).1) z.chain) c.go_round.new.from.sender) i.sender_kept c.in-Ok-Again.ensures.sends;
       holds = subst (λ z. IsHeld (g.N.Sockets.net c.go_round.new.net).trace z.socket (is_stream z.stack) c.go_round.new.from.sender.shut z.receiver.ended) i.sender_kept
@@ -50,7 +68,7 @@ returns-in-Ok-Over-clause-taken g c =
     let i = c.turns.invariant in
     λ x piece ends kept stands.
     let k = i.goes x piece ends kept stands in
-    let rounded = subst (λ z. (x : Ends) (calls : List Call) (piece : ℕ) → AreEnds x (encoding_of (is_stream c.args.from.now.stack) (layers_of (λ vtable. (g.dyn-1.0.entry vtable).1) c.args.from.now.chain)) c.args.from.now.socket (is_stream z.stack) (layers_of (λ vtable. (g.dyn-1.0.entry vtable).1) z.chain) z.socket piece c.args.deadline → AreKept x calls (encoding_of (is_stream c.args.from.now.stack) (layers_of (λ vtable. (g.dyn-1.0.entry vtable).1) c.args.from.now.chain)) (is_stream z.stack) (layers_of (λ vtable. (g.dyn-1.0.entry vtable).1) z.chain) piece c.turns.from.sender (g.N.Sockets.net c.turns.net).told c.turns.to.receiver.ended (unread_of c.turns.to.receiver.source) c.turns.heard.items → Stands x calls c.turns.from.sender c.turns.heard.items c.turns.enough → HasRounded g.N.Sockets.Becomes x calls (encoding_of (is_stream c.args.from.now.stack) (layers_of (λ vtable. (g.dyn-1.0.entry vtable).1) c.args.from.now.chain)) (is_stream z.stack) (layers_of (λ vtable. (g.dyn-1.0.entry vtable).1) z.chain) piece c.turns.net c.go_round.new.net (Ok c.in-Ok-Over.field-0) c.go_round.new.from.sender (g.N.Sockets.net c.go_round.new.net).told c.go_round.new.to.receiver.ended (unread_of c.go_round.new.to.receiver.source) c.go_round.new.heard.items) i.kept (subst (λ z. (x : Ends) (calls : List Call) (piece : ℕ) → AreEnds x (encoding_of (is_stream z.stack) (layers_of (λ vtable. (g.dyn-1.0.entry vtable).1) z.chain)) z.socket (is_stream c.turns.to.stack) (layers_of (λ vtable. (g.dyn-1.0.entry vtable).1) c.turns.to.chain) c.turns.to.socket piece c.args.deadline → AreKept x calls (encoding_of (is_stream z.stack) (layers_of (λ vtable. (g.dyn-1.0.entry vtable).1) z.chain)) (is_stream c.turns.to.stack) (layers_of (λ vtable. (g.dyn-1.0.entry vtable).1) c.turns.to.chain) piece c.turns.from.sender (g.N.Sockets.net c.turns.net).told c.turns.to.receiver.ended (unread_of c.turns.to.receiver.source) c.turns.heard.items → Stands x calls c.turns.from.sender c.turns.heard.items c.turns.enough → HasRounded g.N.Sockets.Becomes x calls (encoding_of (is_stream z.stack) (layers_of (λ vtable. (g.dyn-1.0.entry vtable).1) z.chain)) (is_stream c.turns.to.stack) (layers_of (λ vtable. (g.dyn-1.0.entry vtable).1) c.turns.to.chain) piece c.turns.net c.go_round.new.net (Ok c.in-Ok-Over.field-0) c.go_round.new.from.sender (g.N.Sockets.net c.go_round.new.net).told c.go_round.new.to.receiver.ended (unread_of c.go_round.new.to.receiver.source) c.go_round.new.heard.items) i.sender_kept c.in-Ok-Over.ensures.rounded) in
+    let rounded = rounds_on (λ vtable. (g.dyn-1.0.entry vtable).1) g.N.Sockets.Becomes c.args.from.now c.turns.from c.args.to.now c.turns.to c.args.deadline c.turns.net c.go_round.new.net (g.N.Sockets.net c.turns.net).told c.turns.heard.items (λ x calls. Stands x calls c.turns.from.sender c.turns.heard.items c.turns.enough) (Ok c.in-Ok-Over.field-0) c.go_round.new.from.sender (g.N.Sockets.net c.go_round.new.net).told c.go_round.new.to.receiver c.go_round.new.heard.items i.sender_kept i.kept c.in-Ok-Over.ensures.rounded in
     goes_over g.N.Sockets.Becomes x (encoding_of (is_stream c.args.from.now.stack) (layers_of (λ vtable. (g.dyn-1.0.entry vtable).1) c.args.from.now.chain)) (is_stream c.args.to.now.stack) (layers_of (λ vtable. (g.dyn-1.0.entry vtable).1) c.args.to.now.chain) piece c.args.net.now c.turns.net c.go_round.new.net c.turns.from.sender c.go_round.new.from.sender (g.N.Sockets.net c.turns.net).told (g.N.Sockets.net c.go_round.new.net).told c.turns.to.receiver.ended c.go_round.new.to.receiver.ended (unread_of c.turns.to.receiver.source) (unread_of c.go_round.new.to.receiver.source) c.turns.heard.items c.go_round.new.heard.items c.turns.enough g.met.N.Sockets.becomes_on k c.in-Ok-Over.outcome (subst (λ r. HasRounded g.N.Sockets.Becomes x k.calls (encoding_of (is_stream c.args.from.now.stack) (layers_of (λ vtable. (g.dyn-1.0.entry vtable).1) c.args.from.now.chain)) (is_stream c.args.to.now.stack) (layers_of (λ vtable. (g.dyn-1.0.entry vtable).1) c.args.to.now.chain) piece c.turns.net c.go_round.new.net (Ok r) c.go_round.new.from.sender (g.N.Sockets.net c.go_round.new.net).told c.go_round.new.to.receiver.ended (unread_of c.go_round.new.to.receiver.source) c.go_round.new.heard.items) c.in-Ok-Over.field-0-is (rounded x k.calls piece ends k.kept k.stands))
 
 pub returns-in-Err-clause-taken : goal.returns-in-Err-clause-taken
@@ -58,7 +76,7 @@ returns-in-Err-clause-taken g c =
     let i = c.turns.invariant in
     λ x piece ends kept stands.
     let k = i.goes x piece ends kept stands in
-    let rounded = subst (λ z. (x : Ends) (calls : List Call) (piece : ℕ) → AreEnds x (encoding_of (is_stream c.args.from.now.stack) (layers_of (λ vtable. (g.dyn-1.0.entry vtable).1) c.args.from.now.chain)) c.args.from.now.socket (is_stream z.stack) (layers_of (λ vtable. (g.dyn-1.0.entry vtable).1) z.chain) z.socket piece c.args.deadline → AreKept x calls (encoding_of (is_stream c.args.from.now.stack) (layers_of (λ vtable. (g.dyn-1.0.entry vtable).1) c.args.from.now.chain)) (is_stream z.stack) (layers_of (λ vtable. (g.dyn-1.0.entry vtable).1) z.chain) piece c.turns.from.sender (g.N.Sockets.net c.turns.net).told c.turns.to.receiver.ended (unread_of c.turns.to.receiver.source) c.turns.heard.items → Stands x calls c.turns.from.sender c.turns.heard.items c.turns.enough → HasRounded g.N.Sockets.Becomes x calls (encoding_of (is_stream c.args.from.now.stack) (layers_of (λ vtable. (g.dyn-1.0.entry vtable).1) c.args.from.now.chain)) (is_stream z.stack) (layers_of (λ vtable. (g.dyn-1.0.entry vtable).1) z.chain) piece c.turns.net c.go_round.new.net (Err c.in-Err.none) c.go_round.new.from.sender (g.N.Sockets.net c.go_round.new.net).told c.go_round.new.to.receiver.ended (unread_of c.go_round.new.to.receiver.source) c.go_round.new.heard.items) i.kept (subst (λ z. (x : Ends) (calls : List Call) (piece : ℕ) → AreEnds x (encoding_of (is_stream z.stack) (layers_of (λ vtable. (g.dyn-1.0.entry vtable).1) z.chain)) z.socket (is_stream c.turns.to.stack) (layers_of (λ vtable. (g.dyn-1.0.entry vtable).1) c.turns.to.chain) c.turns.to.socket piece c.args.deadline → AreKept x calls (encoding_of (is_stream z.stack) (layers_of (λ vtable. (g.dyn-1.0.entry vtable).1) z.chain)) (is_stream c.turns.to.stack) (layers_of (λ vtable. (g.dyn-1.0.entry vtable).1) c.turns.to.chain) piece c.turns.from.sender (g.N.Sockets.net c.turns.net).told c.turns.to.receiver.ended (unread_of c.turns.to.receiver.source) c.turns.heard.items → Stands x calls c.turns.from.sender c.turns.heard.items c.turns.enough → HasRounded g.N.Sockets.Becomes x calls (encoding_of (is_stream z.stack) (layers_of (λ vtable. (g.dyn-1.0.entry vtable).1) z.chain)) (is_stream c.turns.to.stack) (layers_of (λ vtable. (g.dyn-1.0.entry vtable).1) c.turns.to.chain) piece c.turns.net c.go_round.new.net (Err c.in-Err.none) c.go_round.new.from.sender (g.N.Sockets.net c.go_round.new.net).told c.go_round.new.to.receiver.ended (unread_of c.go_round.new.to.receiver.source) c.go_round.new.heard.items) i.sender_kept c.in-Err.ensures.rounded) in
+    let rounded = rounds_on (λ vtable. (g.dyn-1.0.entry vtable).1) g.N.Sockets.Becomes c.args.from.now c.turns.from c.args.to.now c.turns.to c.args.deadline c.turns.net c.go_round.new.net (g.N.Sockets.net c.turns.net).told c.turns.heard.items (λ x calls. Stands x calls c.turns.from.sender c.turns.heard.items c.turns.enough) (Err c.in-Err.none) c.go_round.new.from.sender (g.N.Sockets.net c.go_round.new.net).told c.go_round.new.to.receiver c.go_round.new.heard.items i.sender_kept i.kept c.in-Err.ensures.rounded in
     goes_short g.N.Sockets.Becomes x (encoding_of (is_stream c.args.from.now.stack) (layers_of (λ vtable. (g.dyn-1.0.entry vtable).1) c.args.from.now.chain)) (is_stream c.args.to.now.stack) (layers_of (λ vtable. (g.dyn-1.0.entry vtable).1) c.args.to.now.chain) piece c.args.net.now c.turns.net c.go_round.new.net c.turns.from.sender c.go_round.new.from.sender (g.N.Sockets.net c.turns.net).told (g.N.Sockets.net c.go_round.new.net).told c.turns.to.receiver.ended c.go_round.new.to.receiver.ended (unread_of c.turns.to.receiver.source) (unread_of c.go_round.new.to.receiver.source) c.turns.heard.items c.go_round.new.heard.items c.turns.enough g.met.N.Sockets.becomes_on k c.in-Err.none (rounded x k.calls piece ends k.kept k.stands)
 
 pub returns-in-Ok-Over-clause-moves : goal.returns-in-Ok-Over-clause-moves

@@ -8,9 +8,10 @@ use Rattle.taps_connection.specs.Senders.{rest_of}
 use Rattle.taps_connection.specs.Sound.{IsSound}
 use Rattle.taps_connection.specs.Sources.{unread_of}
 use Rattle.taps_exchange.specs.Hearings.{one_unless}
+use Rattle.taps_loop.specs.Connections.{AreEndsOf, AreKeptOf}
 use Rattle.taps_loop.specs.Loops.{Ends}
 use Rattle.taps_loop.specs.Sends.{HasRest, count_left}
-use Rattle.taps_loop.specs.Rounds.{AreEnds, AreKept, Stands, Lags, Moves, rest_by}
+use Rattle.taps_loop.specs.Rounds.{Stands, Lags, Moves, rest_by}
 use Rattle.taps_loop.proofs.Going.{GoesOn}
 use Rattle.taps_loop.proofs.turns.go_rounds.Given as goal
 
@@ -18,9 +19,8 @@ abbrev pub invariant-turns : goal.invariant-turns
 invariant-turns g l =
     record {
       goes : (x : Ends) (piece : ℕ) →
-          AreEnds x (encoding_of (is_stream l.fn.from.stack) (layers_of (λ vtable. (g.dyn-1.0.entry vtable).1) l.fn.from.chain)) l.fn.from.socket (is_stream l.fn.to.stack) (layers_of (λ vtable. (g.dyn-1.0.entry vtable).1) l.fn.to.chain) l.fn.to.socket piece l.deadline →
-          AreKept x [] (encoding_of (is_stream l.fn.from.stack) (layers_of (λ vtable. (g.dyn-1.0.entry vtable).1) l.fn.from.chain)) (is_stream l.fn.to.stack) (layers_of (λ vtable. (g.dyn-1.0.entry vtable).1) l.fn.to.chain) piece l.fn.from.sender
-          (g.N.Sockets.net l.fn.net).told l.fn.to.receiver.ended (unread_of l.fn.to.receiver.source) l.fn.heard.items →
+          AreEndsOf (λ vtable. (g.dyn-1.0.entry vtable).1) x l.fn.from l.fn.to piece l.deadline →
+          AreKeptOf (λ vtable. (g.dyn-1.0.entry vtable).1) x [] l.fn.from l.fn.to piece (g.N.Sockets.net l.fn.net).told l.fn.heard.items →
           Stands x [] l.fn.from.sender l.fn.heard.items l.first →
           GoesOn g.N.Sockets.Becomes x (encoding_of (is_stream l.fn.from.stack) (layers_of (λ vtable. (g.dyn-1.0.entry vtable).1) l.fn.from.chain)) (is_stream l.fn.to.stack) (layers_of (λ vtable. (g.dyn-1.0.entry vtable).1) l.fn.to.chain) piece
           l.fn.net l.net l.from.sender (g.N.Sockets.net l.net).told l.to.receiver.ended (unread_of l.to.receiver.source) l.heard.items l.enough;
