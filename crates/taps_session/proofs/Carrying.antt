@@ -57,6 +57,20 @@ pub record IsCarried {N : Type 0} (Becomes : N → List Call → N → Type 0) (
   pub added : HasAdded (Records Becomes) a' b (net a'.net).trace (net b.net).trace
   pub raced : IsRaced rules targets (with_spare (net a'.net) a'.spare) (with_spare (net b.net) b.spare) x
 
+pub carries : {N : Type 0} (Becomes : N → List Call → N → Type 0) (net : N → Net) (a a' b : Recorded N) (ready : Ready) (rules : Rules) (targets : List Target) (x : RaceAnswer)
+    → (net a.net).trace ≡ [] → with_spare (net a'.net) a'.spare ≡ with_spare (with_spare (net a.net) a.spare) a'.spare → Records Becomes a [] a' → rules ≡ rules_of ready → targets ≡ targets_of ready
+    → HasAdded (Records Becomes) a' b (net a'.net).trace (net b.net).trace → IsRaced rules targets (with_spare (net a'.net) a'.spare) (with_spare (net b.net) b.spare) x
+    → IsCarried Becomes net a a' b ready rules targets x
+carries Becomes net a a' b ready rules targets x fresh roomy none same_rules same_targets added raced = record {
+  fresh = fresh;
+  roomy = roomy;
+  none = none;
+  same_rules = same_rules;
+  same_targets = same_targets;
+  added = added;
+  raced = raced;
+}
+
 -- its items are all
 pub all_items : {N : Type 0} (Becomes : N → List Call → N → Type 0) (net : N → Net) (a a' b : Recorded N) (ready : Ready) (rules : Rules) (targets : List Target) (x : RaceAnswer) → (h : IsCarried Becomes net a a' b ready rules targets x) → (net b.net).trace ≡ h.added.items
 all_items Becomes net a a' b ready rules targets x h =
