@@ -34,7 +34,6 @@ use Rattle.taps_group_exchange.proofs.GroupJudging.{items_are}
 use Rattle.taps_command.specs.Nets.{IsClosedOnce}
 use Rattle.taps_command.specs.Ready as given_file
 use Rattle.taps_session.specs.FileSessions.{rules_of, targets_of}
-use Rattle.taps_session.specs.Groups as specs
 use Rattle.taps_session.specs.Groups.{GroupBehind, GroupedCourse, IsCutAfter, IsCutSession, IsGroupAfter, IsGroupedSession, calls_behind, calls_of}
 use Rattle.taps_session.proofs.Closes.{still_open}
 

@@ -1,5 +1,5 @@
 -- From a race, and the session of a group behind it, to what is told of it.
-use Rattle.std.proofs.Common.{◌≡◌, ◌≤◌, ◌<◌, ◌+◌, ℕ, zero, suc, true, false, List, [], ◌∷◌, ◌++◌, Option, Some, None, Result, Ok, Err, length, refl, sym, ◌∙◌, ap, subst, inl, inr, map, append-nil, arith}
+use Rattle.std.proofs.Common.{◌≡◌, ◌≤◌, ◌<◌, ℕ, zero, suc, true, false, List, [], ◌∷◌, ◌++◌, Option, Some, None, Result, Ok, Err, length, refl, sym, ◌∙◌, ap, subst, inl, inr, map, append-nil, arith}
 use Rattle.std.specs.Prelude.{reverse}
 use Rattle.std.specs.Result.{IsErr}
 use Rattle.taps_base.specs.Counts.{Rose}
@@ -29,14 +29,13 @@ use Rattle.taps_group_exchange.specs.Members.{GroupTerms}
 use Rattle.taps_cloning.specs.Holding.{IsCutHeld, count_with, members_told}
 use Rattle.taps_cloning.specs.Opening.{AreUnused}
 use Rattle.taps_cloning.specs.declared.held.HeldGroup.{HeldGroup}
-use Rattle.taps_text.specs.declared.outcome.Outcome as lines
 use Rattle.taps_text.specs.declared.outcome.Outcome.TheVariants as line
 use Rattle.taps_command.specs.Nets.{HasRun, SocketsState, uncalled}
 use Rattle.taps_command.specs.Ready.{Ready}
 use Rattle.taps_command.proofs.Running.{none_closed}
 use Rattle.taps_session.specs.FileGroups.{group_of}
 use Rattle.taps_session.specs.FileSessions.{targets_of}
-use Rattle.taps_session.specs.Groups.{GroupBehind, GroupedCourse, calls_behind, calls_of, IsCutSession, IsGroupedSession}
+use Rattle.taps_session.specs.Groups.{GroupBehind, GroupedCourse, calls_behind, IsCutSession, IsGroupedSession}
 use Rattle.taps_session.specs.GroupLogs.{ShowBytesOf, HoldsGrouped, IsGroupSeen, held_of_group, log_by, outcome_with}
 use Rattle.taps_session.specs.GroupParts.{EndsGrouped, GroupGoesOn, IsGroupEnded, IsWithWinner, log_told, logs_by, outcome_by}
 use Rattle.taps_session.specs.Raced.{HasUnusedWinner}

@@ -1,5 +1,5 @@
 use Rattle.std.proofs.Common.{refl}
-use Rattle.taps_session.proofs.Carrying.{IsCarried, carries, carried_ok, carried_err, not_raced_by, not_reserved_by}
+use Rattle.taps_session.proofs.Carrying.{IsCarried, carries, carried_ok, carried_err, not_raced, not_reserved}
 use Rattle.taps_session.proofs.holding.carry_out.Given.{Over}
 use Rattle.taps_session.proofs.holding.carry_out.Goals.{In_ok-answer}
 use Rattle.taps_session.proofs.holding.carry_out.Goals as goal
@@ -9,12 +9,12 @@ carried g c = carries g.N.Sockets.Becomes g.N.Sockets.net _ _ _ _ _ _ _ c.requir
 
 pub returns-in_err-reserve : goal.returns-in_err-reserve
 returns-in_err-reserve g c = record {
-  ran = not_reserved_by g.N.Sockets.Becomes g.N.Sockets.net c.args.net.now c.reserve.new.self g.L.Layers.layers c.args.ready.now _ c.from_residual.ensures.0 g.met.N.Sockets.shows c.requires.fresh c.reserve.ensures.net c.reserve.ensures.becomes;
+  ran = not_reserved g.N.Sockets.Becomes g.N.Sockets.net c.args.net.now c.reserve.new.self g.L.Layers.layers c.args.ready.now _ c.from_residual.ensures.0 g.met.N.Sockets.shows c.requires.fresh c.reserve.ensures.net c.reserve.ensures.becomes;
 }
 
 pub returns-in_err-answer : goal.returns-in_err-answer
 returns-in_err-answer g c = record {
-  ran = not_raced_by g.N.Sockets.Becomes g.N.Sockets.net c.args.net.now c.reserve.new.self c.race.new.net g.L.Layers.layers c.args.ready.now _ c.from_residual-in_err-answer.ensures.0
+  ran = not_raced g.N.Sockets.Becomes g.N.Sockets.net c.args.net.now c.reserve.new.self c.race.new.net g.L.Layers.layers c.args.ready.now _ c.from_residual-in_err-answer.ensures.0
       g.met.N.Sockets.becomes_on g.met.N.Sockets.shows c.requires.fresh c.reserve.ensures.net c.reserve.ensures.becomes c.in_err-answer.ensures.unchanged c.race.ensures.becomes;
 }
 
