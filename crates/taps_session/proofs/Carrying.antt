@@ -57,6 +57,20 @@ pub record IsCarried {N : Type 0} (Becomes : N → List Call → N → Type 0) (
   pub added : HasAdded (Records Becomes) a' b (net a'.net).trace (net b.net).trace
   pub raced : IsRaced rules targets (with_spare (net a'.net) a'.spare) (with_spare (net b.net) b.spare) x
 
+pub carries : {N : Type 0} (Becomes : N → List Call → N → Type 0) (net : N → Net) (a a' b : Recorded N) (ready : Ready) (rules : Rules) (targets : List Target) (x : RaceAnswer)
+    → (net a.net).trace ≡ [] → with_spare (net a'.net) a'.spare ≡ with_spare (with_spare (net a.net) a.spare) a'.spare → Records Becomes a [] a' → rules ≡ rules_of ready → targets ≡ targets_of ready
+    → HasAdded (Records Becomes) a' b (net a'.net).trace (net b.net).trace → IsRaced rules targets (with_spare (net a'.net) a'.spare) (with_spare (net b.net) b.spare) x
+    → IsCarried Becomes net a a' b ready rules targets x
+carries Becomes net a a' b ready rules targets x fresh roomy none same_rules same_targets added raced = record {
+  fresh = fresh;
+  roomy = roomy;
+  none = none;
+  same_rules = same_rules;
+  same_targets = same_targets;
+  added = added;
+  raced = raced;
+}
+
 -- its items are all
 pub all_items : {N : Type 0} (Becomes : N → List Call → N → Type 0) (net : N → Net) (a a' b : Recorded N) (ready : Ready) (rules : Rules) (targets : List Target) (x : RaceAnswer) → (h : IsCarried Becomes net a a' b ready rules targets x) → (net b.net).trace ≡ h.added.items
 all_items Becomes net a a' b ready rules targets x h =
@@ -92,31 +106,20 @@ carried_err Becomes net a a' b c shelf ready rules targets x at none on shows h 
     (goes_on_for (Records Becomes) b c (seen net b) (seen net c) shelf ready targets (targets_of ready) at (last_moment h.added.items) x (Err none) h.same_targets told go))
 
 -- no room was made
-pub not_reserved : {N : Type 0} (Becomes : N → List Call → N → Type 0) (net : N → Net) (a b : Recorded N) (shelf : List Layer) (ready : Ready) (none : NoMemory)
+pub not_reserved : {N : Type 0} (Becomes : N → List Call → N → Type 0) (net : N → Net) (a b : Recorded N) (shelf : List Layer) (ready : Ready) (r : Result Ended NoMemory) → IsErr r
     → ShowLaw Becomes net → (net a.net).trace ≡ [] → with_spare (net b.net) b.spare ≡ with_spare (with_spare (net a.net) a.spare) b.spare → Records Becomes a [] b
-    → HasRun Becomes a.net b.net (net a.net) (net b.net) (EndsSession shelf ready (Err none))
-not_reserved Becomes net a b shelf ready none shows fresh e h =
+    → HasRun Becomes a.net b.net (net a.net) (net b.net) (EndsSession shelf ready r)
+not_reserved Becomes net a b shelf ready (Ok e) err shows fresh roomy h = absurd (let wrong : false ≡ true = err in cc)
+not_reserved Becomes net a b shelf ready (Err none) err shows fresh roomy h =
     unrecorded Becomes a b (net a.net) (net b.net) shelf ready (Err none) (shows a.net b.net)
-    (none_ended (Records Becomes) a b (seen net a) (seen net b) shelf ready none fresh e h (records_show Becomes net shows a b))
+    (none_ended (Records Becomes) a b (seen net a) (seen net b) shelf ready none fresh roomy h (records_show Becomes net shows a b))
 
 -- no race began
-pub not_raced : {N : Type 0} (Becomes : N → List Call → N → Type 0) (net : N → Net) (a a' b : Recorded N) (shelf : List Layer) (ready : Ready) (none : NoMemory)
+pub not_raced : {N : Type 0} (Becomes : N → List Call → N → Type 0) (net : N → Net) (a a' b : Recorded N) (shelf : List Layer) (ready : Ready) (r : Result Ended NoMemory) → IsErr r
     → AppendLaw Becomes → ShowLaw Becomes net → (net a.net).trace ≡ [] → with_spare (net a'.net) a'.spare ≡ with_spare (with_spare (net a.net) a.spare) a'.spare → Records Becomes a [] a'
     → with_spare (net b.net) b.spare ≡ with_spare (net a'.net) a'.spare → HasAdded (Records Becomes) a' b (net a'.net).trace (net b.net).trace
-    → HasRun Becomes a.net b.net (net a.net) (net b.net) (EndsSession shelf ready (Err none))
-not_raced Becomes net a a' b shelf ready none on shows fresh e h same added =
+    → HasRun Becomes a.net b.net (net a.net) (net b.net) (EndsSession shelf ready r)
+not_raced Becomes net a a' b shelf ready (Ok e) err on shows fresh roomy h same added = absurd (let wrong : false ≡ true = err in cc)
+not_raced Becomes net a a' b shelf ready (Err none) err on shows fresh roomy h same added =
     unrecorded Becomes a b (net a.net) (net b.net) shelf ready (Err none) (shows a.net b.net)
-    (none_raced (Records Becomes) a a' b (seen net a) (seen net a') (seen net b) shelf ready none (records_on Becomes on) fresh e h same added (records_show Becomes net shows a b))
-
-pub not_raced_by : {N : Type 0} (Becomes : N → List Call → N → Type 0) (net : N → Net) (a a' b : Recorded N) (shelf : List Layer) (ready : Ready) (r : Result Ended NoMemory) → IsErr r
-    → AppendLaw Becomes → ShowLaw Becomes net → (net a.net).trace ≡ [] → with_spare (net a'.net) a'.spare ≡ with_spare (with_spare (net a.net) a.spare) a'.spare → Records Becomes a [] a'
-    → with_spare (net b.net) b.spare ≡ with_spare (net a'.net) a'.spare → HasAdded (Records Becomes) a' b (net a'.net).trace (net b.net).trace
-    → HasRun Becomes a.net b.net (net a.net) (net b.net) (EndsSession shelf ready r)
-not_raced_by Becomes net a a' b shelf ready (Ok e) err on shows fresh roomy h same added = absurd (let wrong : false ≡ true = err in cc)
-not_raced_by Becomes net a a' b shelf ready (Err none) err on shows fresh roomy h same added = not_raced Becomes net a a' b shelf ready none on shows fresh roomy h same added
-
-pub not_reserved_by : {N : Type 0} (Becomes : N → List Call → N → Type 0) (net : N → Net) (a b : Recorded N) (shelf : List Layer) (ready : Ready) (r : Result Ended NoMemory) → IsErr r
-    → ShowLaw Becomes net → (net a.net).trace ≡ [] → with_spare (net b.net) b.spare ≡ with_spare (with_spare (net a.net) a.spare) b.spare → Records Becomes a [] b
-    → HasRun Becomes a.net b.net (net a.net) (net b.net) (EndsSession shelf ready r)
-not_reserved_by Becomes net a b shelf ready (Ok e) err shows fresh roomy h = absurd (let wrong : false ≡ true = err in cc)
-not_reserved_by Becomes net a b shelf ready (Err none) err shows fresh roomy h = not_reserved Becomes net a b shelf ready none shows fresh roomy h
+    (none_raced (Records Becomes) a a' b (seen net a) (seen net a') (seen net b) shelf ready none (records_on Becomes on) fresh roomy h same added (records_show Becomes net shows a b))

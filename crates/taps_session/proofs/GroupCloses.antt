@@ -21,13 +21,11 @@ use Rattle.taps_socket.proofs.Lists.{either, false_by, or_left, or_right}
 use Rattle.taps_racer.proofs.Stretches.{closed-append, given-append, given_in_race}
 use Rattle.taps_listening.proofs.Onces.{once_after}
 use Rattle.taps_stack.specs.declared.target.Target.{Target}
-use Rattle.taps_exchange.specs.declared.outcome.Outcome.{Outcome}
-use Rattle.taps_exchange.specs.Outcomes.{IsExchangeItem}
-use Rattle.taps_exchange.specs.Turns.{Place, initiate, turn_of, turn_of_group, IsInTurn}
+use Rattle.taps_exchange.specs.Turns.{Place, initiate, turn_of, IsInTurn}
 use Rattle.taps_framer.specs.Layers.{Layer}
 use Rattle.taps_group.specs.Closes.{close_calls}
 use Rattle.taps_group_exchange.specs.declared.outcome.GroupOutcome.{GroupOutcome}
-use Rattle.taps_group_exchange.specs.Cloning.{CloneRace, calls_of_races, sockets_of_races, socket_by, AreCloned, AreMade, GaveSocket, GoesOn, IsCloneRace}
+use Rattle.taps_group_exchange.specs.Cloning.{CloneRace, calls_of_races, sockets_of_races, socket_by, AreCloned, AreMade, GoesOn, IsCloneRace}
 use Rattle.taps_group_exchange.specs.GroupExchanges.{AreGroupItems, sockets_in}
 use Rattle.taps_group_exchange.specs.GroupSessions as groups
 use Rattle.taps_group_exchange.specs.GroupSessions.{GroupCourse, IsCutBehind, IsCutGroup, IsExchangeUnless, IsGroupSession, IsUndone, places_after, sockets_by}
@@ -36,7 +34,6 @@ use Rattle.taps_group_exchange.proofs.GroupJudging.{items_are}
 use Rattle.taps_command.specs.Nets.{IsClosedOnce}
 use Rattle.taps_command.specs.Ready as given_file
 use Rattle.taps_session.specs.FileSessions.{rules_of, targets_of}
-use Rattle.taps_session.specs.Groups as specs
 use Rattle.taps_session.specs.Groups.{GroupBehind, GroupedCourse, IsCutAfter, IsCutSession, IsGroupAfter, IsGroupedSession, calls_behind, calls_of}
 use Rattle.taps_session.proofs.Closes.{still_open}
 

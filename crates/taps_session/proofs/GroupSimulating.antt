@@ -12,7 +12,7 @@ use Rattle.taps_script.specs.OneRace.{GoesOneWay, IsScriptedRace}
 use Rattle.taps_script.specs.ScriptNet.{Scripted, net_of, at_first, StaysScripted}
 use Rattle.taps_script.specs.ScriptSteps.{Follows}
 use Rattle.taps_group_exchange.specs.GroupSessions as groups
-use Rattle.taps_group_exchange.specs.GroupSessions.{GroupCourse, IsGroupSession}
+use Rattle.taps_group_exchange.specs.GroupSessions.{IsGroupSession}
 use Rattle.taps_command.specs.Meanings.{IsPrinted}
 use Rattle.taps_command.specs.Nets.{HasRun}
 use Rattle.taps_command.specs.Ready.{Ready}

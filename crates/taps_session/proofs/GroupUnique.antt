@@ -1,5 +1,5 @@
 -- A script determines the session of a group: the races of its clones, its exchange, and how it ended.
-use Rattle.std.proofs.Common.{◌≡◌, ◌≤◌, ◌<◌, ◌+◌, ◌++◌, ℕ, zero, suc, List, [], ◌∷◌, Option, Some, None, refl, sym, ◌∙◌, ap, subst, append_assoc, arith}
+use Rattle.std.proofs.Common.{◌≡◌, ◌+◌, ◌++◌, ℕ, zero, suc, List, [], ◌∷◌, Option, Some, None, refl, sym, ◌∙◌, ap, subst, append_assoc, arith}
 use Rattle.taps_socket.specs.declared.race_answer.RaceAnswer.{RaceAnswer}
 use Rattle.taps_socket.specs.declared.race_answer.RaceAnswer.TheVariants as answer
 use Rattle.taps_socket.specs.Calls.{Call}
@@ -8,10 +8,8 @@ use Rattle.taps_script.specs.OneRace.{GoesOneWay, IsScriptedRace}
 use Rattle.taps_script.specs.ScriptSteps.{Follows}
 use Rattle.taps_script.specs.ScriptSteps as steps
 use Rattle.taps_exchange.specs.Turns.{Place, initiate, turn_of}
-use Rattle.taps_exchange.specs.declared.outcome.Outcome.{Outcome}
 use Rattle.taps_group.specs.Clones.{clone_rules}
 use Rattle.taps_group.specs.Closes.{close_calls}
-use Rattle.taps_group.specs.Properties.{most_members}
 use Rattle.taps_group_exchange.specs.declared.outcome.GroupOutcome.{GroupOutcome}
 use Rattle.taps_group_exchange.specs.declared.outcome.GroupOutcome.TheVariants as ends
 use Rattle.taps_group_exchange.specs.Cloning.{CloneRace, calls_of_races, AreCloned, Failed, GoesOn, IsCloneRace}

@@ -1,8 +1,7 @@
 -- From a race, and the session of a group behind it, to what is told of it.
-use Rattle.std.proofs.Common.{◌≡◌, ◌≤◌, ◌<◌, ◌+◌, ◌*◌, ℕ, zero, suc, true, false, List, [], ◌∷◌, ◌++◌, Option, Some, None, Result, Ok, Err, length, refl, sym, ◌∙◌, ap, subst, inl, inr, map, append-nil, append_assoc, length-append, arith}
+use Rattle.std.proofs.Common.{◌≡◌, ◌≤◌, ◌<◌, ℕ, zero, suc, true, false, List, [], ◌∷◌, ◌++◌, Option, Some, None, Result, Ok, Err, length, refl, sym, ◌∙◌, ap, subst, inl, inr, map, append-nil, arith}
 use Rattle.std.specs.Prelude.{reverse}
 use Rattle.std.specs.Result.{IsErr}
-use Rattle.std.proofs.lemmas.List.{length-reverse}
 use Rattle.taps_base.specs.Counts.{Rose}
 use Rattle.taps_base.specs.declared.no_memory.NoMemory.{NoMemory}
 use Rattle.taps_framer.specs.Layers.{Layer}
@@ -30,21 +29,21 @@ use Rattle.taps_group_exchange.specs.Members.{GroupTerms}
 use Rattle.taps_cloning.specs.Holding.{IsCutHeld, count_with, members_told}
 use Rattle.taps_cloning.specs.Opening.{AreUnused}
 use Rattle.taps_cloning.specs.declared.held.HeldGroup.{HeldGroup}
-use Rattle.taps_text.specs.declared.outcome.Outcome as lines
 use Rattle.taps_text.specs.declared.outcome.Outcome.TheVariants as line
-use Rattle.taps_command.specs.Nets.{HasRun, IsClosedOnce, SocketsState, uncalled}
+use Rattle.taps_command.specs.Nets.{HasRun, SocketsState, uncalled}
 use Rattle.taps_command.specs.Ready.{Ready}
-use Rattle.taps_command.proofs.Running.{ran_by, ran_on, none_closed}
+use Rattle.taps_command.proofs.Running.{none_closed}
 use Rattle.taps_session.specs.FileGroups.{group_of}
 use Rattle.taps_session.specs.FileSessions.{targets_of}
-use Rattle.taps_session.specs.Groups.{GroupBehind, GroupedCourse, calls_behind, calls_of, IsCutSession, IsGroupedSession, LeavesGrouped}
-use Rattle.taps_session.specs.GroupLogs.{ShowBytesOf, HoldsGrouped, IsGroupSeen, held_of_group, log_by, members_behind, outcome_behind, outcome_with}
+use Rattle.taps_session.specs.Groups.{GroupBehind, GroupedCourse, calls_behind, IsCutSession, IsGroupedSession}
+use Rattle.taps_session.specs.GroupLogs.{ShowBytesOf, HoldsGrouped, IsGroupSeen, held_of_group, log_by, outcome_with}
 use Rattle.taps_session.specs.GroupParts.{EndsGrouped, GroupGoesOn, IsGroupEnded, IsWithWinner, log_told, logs_by, outcome_by}
 use Rattle.taps_session.specs.Raced.{HasUnusedWinner}
 use Rattle.taps_session.specs.Session.{parted}
-use Rattle.taps_session.specs.SessionLogs.{Held, LeavesUncalled, outcome_told}
+use Rattle.taps_session.specs.SessionLogs.{Held, outcome_told}
 use Rattle.taps_session.specs.declared.grouping.GroupEnded.{GroupEnded}
 use Rattle.taps_session.proofs.Carrying.{IsCarried, ShowLaw, all_items, count_is, has_race, seen}
+use Rattle.taps_session.proofs.Recording.{returned}
 use Rattle.taps_session.proofs.Ending.{AppendLaw, HasRace}
 use Rattle.taps_session.proofs.GroupCloses.{closed_once, cut_session_closes, whole_closes}
 use Rattle.taps_session.proofs.GroupJudged.{members_judged, sockets_apart}
@@ -283,14 +282,6 @@ group_not_raced Becomes net a a' b shelf ready (Err none) err on show fresh room
 behind_race : (before : List Item) (c : GroupedCourse) (trace : List Item) → before ≡ [] → trace ≡ items_of (calls_behind c.behind) ++ (c.race ++ before) → trace ≡ items_of (calls_behind c.behind) ++ c.race
 behind_race before c trace fresh e = e ∙ ap (λ v. items_of (calls_behind c.behind) ++ v) (ap (λ v. c.race ++ v) fresh ∙ append-nil c.race)
 
--- so many of the items are the race's
-pub few_before : (shelf : List Layer) (ready : Ready) (e : GroupEnded) (items : List Item) (old new : SocketsState) → old.net.trace ≡ [] → reverse items ≡ new.net.trace → IsGroupEnded shelf ready e old new → e.raced ≤ length items
-few_before shelf ready e items old new fresh recorded x =
-    let split = recorded ∙ behind_race old.net.trace x.course new.net.trace fresh x.seen.items in
-    let long : length items ≡ length (items_of (calls_behind x.course.behind) ++ x.course.race) = sym (length-reverse items) ∙ ap length split in
-    let count = x.raced in
-    omega (arith, long, count, length-append (items_of (calls_behind x.course.behind)) x.course.race)
-
 -- what is kept is the session
 kept_group : (shelf : List Layer) (ready : Ready) (e : GroupEnded) (items : List Item) (old new : SocketsState) (s : Held) → old.net.trace ≡ [] → reverse items ≡ new.net.trace
     → s ≡ parted items e.raced (Some e.answer) (logs_by e.held) (outcome_by e.held) → (x : IsGroupEnded shelf ready e old new) → s ≡ held_of_group shelf ready x.course
@@ -306,9 +297,9 @@ pub group_held : {N T : Type 0} (First : T → List Call → T → Type 0) (Beco
     → HasRun First x y (net a') (net b') (EndsGrouped shelf ready (Ok e)) → HasRun Becomes a b (net a) (net b) (HoldsGrouped shelf ready (Ok s))
 group_held First Becomes net x y a b a' b' shelf ready e items s ea eb to fresh recorded is r =
     let ended = r.holds.ended in
-    let all : HasRun Becomes a' b' (net a') (net b') (HoldsGrouped shelf ready (Ok s)) = record {
+    let all : HasRun First x y (net a') (net b') (HoldsGrouped shelf ready (Ok s)) = record {
       calls = r.calls;
-      becomes = to r.calls r.becomes;
+      becomes = r.becomes;
       shows = r.shows;
       holds = record {
         held = record {
@@ -322,18 +313,7 @@ group_held First Becomes net x y a b a' b' shelf ready e items s ea eb to fresh 
         closed_once = r.holds.closed_once;
       };
     } in
-    subst (λ v. HasRun Becomes a v (net a) (net v) (HoldsGrouped shelf ready (Ok s))) eb
-    (subst (λ v. HasRun Becomes v b' (net v) (net b') (HoldsGrouped shelf ready (Ok s))) ea all)
-
--- where memory ran out, nothing is kept
-pub group_unheld : {S : Type 0} (Becomes : S → List Call → S → Type 0) (a b : S) (n n' : Net) (shelf : List Layer) (ready : Ready) (e : Result GroupEnded NoMemory) (none : NoMemory)
-    → HasRun Becomes a b n n' (EndsGrouped shelf ready e) → HasRun Becomes a b n n' (HoldsGrouped shelf ready (Err none))
-group_unheld Becomes a b n n' shelf ready e none r =
-    ran_on Becomes a b n n' (EndsGrouped shelf ready e) (HoldsGrouped shelf ready (Err none)) r
-    (λ new h. record { held = tt; leaves = h.leaves; closed_once = h.closed_once })
-
-pub grouped_so : (shelf : List Layer) (ready : Ready) (old new : SocketsState) → LeavesUncalled old new → LeavesGrouped shelf ready old new
-grouped_so shelf ready old new same = inl same
+    returned First Becomes net x y a b a' b' (HoldsGrouped shelf ready (Ok s)) ea eb to all
 
 -- a socket that is closed at once is a session that memory cut short before its first clone
 none_begun : (g : GroupTerms) (first at : ℕ) (count : ℕ) → g.clones ≡ count → IsCutBehind g first at [] []

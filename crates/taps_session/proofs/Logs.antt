@@ -1,6 +1,5 @@
 -- From a session that ran, or did not, to its log.
-use Rattle.std.proofs.Common.{◌≡◌, ◌++◌, ℕ, true, false, List, [], ◌∷◌, Option, Result, Ok, Err, refl, sym, ◌∙◌, ap, subst, inl, map, length, length-append, arith}
-use Rattle.std.specs.Result.{IsErr}
+use Rattle.std.proofs.Common.{◌≡◌, ◌++◌, ℕ, List, [], ◌∷◌, Option, Result, Ok, Err, refl, sym, ◌∙◌, ap, subst, inl, map, length, length-append, arith}
 use Rattle.taps_base.specs.declared.no_memory.NoMemory.{NoMemory}
 use Rattle.taps_framer.specs.Layers.{Layer}
 use Rattle.taps_socket.specs.declared.item.Item.{Item}
@@ -17,12 +16,8 @@ use Rattle.taps_command.specs.declared.printed.Printed.{Printed}
 use Rattle.taps_command.proofs.Running.{ran_on, none_closed}
 use Rattle.taps_session.specs.Raced.{EndsSession}
 use Rattle.taps_session.specs.FileSessions.{text_of}
-use Rattle.taps_session.specs.SessionLogs.{Held, Holds, IsLogged, LeavesSession, LeavesUncalled, log_of, status_after}
+use Rattle.taps_session.specs.SessionLogs.{Held, Holds, IsLogged, LeavesSession, log_of, status_after}
 use Rattle.taps_session.proofs.Ending.{AppendLaw}
-
--- sockets that were not touched have no call
-untouched : (n : Net) (new : SocketsState) → new ≡ uncalled n → LeavesUncalled (uncalled n) new
-untouched n new same = subst (λ (v : SocketsState). v ≡ record (uncalled n) { net = with_spare n v.net.spare }) (sym same) refl
 
 module _ (Tells : Held → SocketsState → SocketsState → Type 0) (MayLeave : SocketsState → SocketsState → Type 0) where
   -- a session that ran has a log
@@ -43,28 +38,6 @@ module _ (Tells : Held → SocketsState → SocketsState → Type 0) (MayLeave :
   unlogged Becomes a b n n' plan part held none r =
       ran_on Becomes a b n n' (Holds Tells MayLeave held) (IsPrinted (IsLogged Tells plan part) MayLeave (Err none)) r
       (λ new h. record { prints = tt; leaves = h.leaves; closed_once = h.closed_once })
-
-  -- sockets that were not touched are left so
-  pub not_held : {S : Type 0} (Becomes : S → List Call → S → Type 0) (a b : S) (n n' : Net) (r : Result Held NoMemory)
-      → IsErr r → ((old new : SocketsState) → LeavesUncalled old new → MayLeave old new) → n.trace ≡ [] → HasRun Becomes a b n n' (λ old new. new ≡ old) → HasRun Becomes a b n n' (Holds Tells MayLeave r)
-  not_held Becomes a b n n' (Ok s) e leaves fresh h = absurd (let wrong : false ≡ true = e in cc)
-  not_held Becomes a b n n' (Err none) e leaves fresh h =
-      ran_on Becomes a b n n' (λ old new. new ≡ old) (Holds Tells MayLeave (Err none)) h
-      (λ new same. record {
-        held = tt;
-        leaves = leaves (uncalled n) new (untouched n new same);
-        closed_once = none_closed new.net.trace (ap (λ (v : SocketsState). v.net.trace) same ∙ fresh);
-      })
-
-  pub not_printed : {S : Type 0} (Becomes : S → List Call → S → Type 0) (a b : S) (n n' : Net) (plan : List ℕ) (part : Option ℕ) (r : Result Printed NoMemory)
-      → IsErr r → ((old new : SocketsState) → LeavesUncalled old new → MayLeave old new) → n.trace ≡ [] → HasRun Becomes a b n n' (λ old new. new ≡ old) → HasRun Becomes a b n n' (IsPrinted (IsLogged Tells plan part) MayLeave r)
-  not_printed Becomes a b n n' plan part (Ok printed) e leaves fresh h = absurd (let wrong : false ≡ true = e in cc)
-  not_printed Becomes a b n n' plan part (Err none) e leaves fresh h =
-      unlogged Becomes a b n n' plan part (Err none) none (not_held Becomes a b n n' (Err none) e leaves fresh h)
-
--- a session of Initiate may leave them so
-pub leaves_so : (shelf : List Layer) (ready : Ready) (old new : SocketsState) → LeavesUncalled old new → LeavesSession shelf ready old new
-leaves_so shelf ready old new same = inl same
 
 -- no item was added, so that no call was made
 pub no_items : (items t : List Item) → items ++ t ≡ t → items ≡ []

@@ -1,5 +1,5 @@
 -- What follows a race behind a listener makes a session of both ends.
-use Rattle.std.proofs.Common.{◌≡◌, ◌++◌, ◌∷◌, ℕ, true, false, List, [], Option, Some, None, Result, Ok, Err, refl, sym, ◌∙◌, ap, subst, inl, inr, length, length-append, ◌≤◌, arith}
+use Rattle.std.proofs.Common.{◌≡◌, ◌++◌, ◌∷◌, ℕ, true, false, List, [], Option, Some, None, Result, Ok, Err, refl, sym, ◌∙◌, ap, subst, inl, inr, length}
 use Rattle.std.specs.Prelude.{reverse}
 use Rattle.std.specs.Result.{IsErr}
 use Rattle.std.proofs.lemmas.List.{length-reverse}
@@ -31,27 +31,23 @@ use Rattle.taps_loop.specs.declared.looped.Looped.TheVariants as looped
 use Rattle.taps_text.specs.MemberLines.{MemberLog}
 use Rattle.taps_command.specs.Nets.{HasRun, IsClosedOnce, SocketsState, uncalled}
 use Rattle.taps_command.specs.Ready.{Ready}
-use Rattle.taps_command.proofs.Running.{ran_on, none_closed}
 use Rattle.taps_session.specs.FileSessions.{listened, targets_of}
 use Rattle.taps_session.specs.LoopParts.{GoBehind, count_before}
-use Rattle.taps_session.specs.Loops.{lost, dropped, timed, faulted, exchanged, EndsBoth, IsBothOn, IsBoth, HoldsBoth, LeavesBoth, refused, members_by, outcome_by, ends_of}
-use Rattle.taps_session.specs.Services.{first_target, no_leaf}
+use Rattle.taps_session.specs.Loops.{lost, dropped, timed, faulted, exchanged, EndsBoth, IsBothOn, IsBoth, HoldsBoth, refused, members_by, outcome_by, ends_of}
+use Rattle.taps_session.specs.Services.{first_target}
 use Rattle.taps_session.specs.Session.{parted}
-use Rattle.taps_session.specs.SessionLogs.{Held, LeavesUncalled}
+use Rattle.taps_session.specs.SessionLogs.{Held}
 use Rattle.taps_session.specs.declared.looping.LoopEnded.{LoopEnded}
 use Rattle.taps_session.proofs.Carrying.{ShowLaw}
 use Rattle.taps_session.proofs.Ending.{AppendLaw}
 use Rattle.taps_session.proofs.Logs.{no_items, no_calls}
 use Rattle.taps_session.proofs.LoopRuns.{IsRacedOn, stands, finished, cut_at, closed_looped, items_behind, race_items, told_is}
 use Rattle.taps_session.proofs.Parts.{parts}
+use Rattle.taps_session.proofs.Recording.{returned}
 use Rattle.taps_session.proofs.ServiceRuns.{IsRoomy}
 
 live_named : (t : List Item) (s : ℕ) → has (live_sockets t) s ≡ true → has (named t) s ≡ true
 live_named t s h = given_named t s (kept_of _ (given t) s h).1
-
--- the deadline is that of the race's last time
-until_same : (ready : Ready) (told last : ℕ) → told ≡ last → deadline_by told ready.pre.exchange.deadline_ms ≡ deadline_by last ready.pre.exchange.deadline_ms
-until_same ready told last e = ap (λ t. deadline_by t ready.pre.exchange.deadline_ms) e
 
 abbrev both_of : ℕ → List (List ℕ) → List MemberLog
 both_of sent heard = record { sent = sent; heard = [] } ∷ record { sent = 0; heard = heard } ∷ []
@@ -158,24 +154,6 @@ refused_both Becomes net a a' c ready target shelf cause items count first on sh
       };
     }
 
--- no room was made
-pub unroomed_both : {N : Type 0} (Becomes : N → List Call → N → Type 0) (net : N → Net) (a b : Recorded N) (shelf : List Layer) (ready : Ready) (target : Target) (r : Result LoopEnded NoMemory) → IsErr r
-    → ShowLaw Becomes net → (net a.net).trace ≡ [] → with_spare (net b.net) b.spare ≡ with_spare (with_spare (net a.net) a.spare) b.spare → Records Becomes a [] b
-    → HasRun Becomes a.net b.net (net a.net) (net b.net) (EndsBoth shelf ready target r)
-unroomed_both Becomes net a b shelf ready target (Ok l) err shows fresh e h = absurd (let wrong : false ≡ true = err in cc)
-unroomed_both Becomes net a b shelf ready target (Err none) err shows fresh e h =
-    let same : net b.net ≡ with_spare (net a.net) (net b.net).spare = ap (λ v. with_spare v (net b.net).spare) e in
-    record {
-      calls = [];
-      becomes = h.becomes;
-      shows = shows a.net b.net [] h.becomes;
-      holds = record {
-        ended = tt;
-        leaves = inl (ap (λ (v : Net). record { net = v; calls = [] }) same);
-        closed_once = none_closed (net b.net).trace (ap (λ (v : Net). v.trace) same ∙ fresh);
-      };
-    }
-
 -- no race began: the listener was closed
 pub unraced_both : {N : Type 0} (Becomes : N → List Call → N → Type 0) (net : N → Net) (a a' a2 b c : Recorded N) (ready : Ready) (target : Target) (shelf : List Layer) (l : Listener) (none : NoMemory)
     → first_target (listened ready) ≡ Some target → AppendLaw Becomes → ShowLaw Becomes net → IsRoomy Becomes net a a' → IsListening (Records Becomes) a' a2 (with_spare (net a'.net) a'.spare) (with_spare (net a2.net) a2.spare) target 1 l
@@ -210,16 +188,6 @@ kept e items trace held s split count answer members outcome recorded is =
     is ∙ parts items held.before held.after e.before (Some e.answer) (members_by e.looped) (outcome_by e.looped) (recorded ∙ split) count
     ∙ rw (← answer, ← members, ← outcome) refl
 
-few_before : (e : LoopEnded) (items trace : List Item) (held : Held) → trace ≡ held.after ++ held.before → e.before ≡ length held.before → reverse items ≡ trace → e.before ≤ length items
-few_before e items trace held split count recorded =
-    let long : length items ≡ length (held.after ++ held.before) = sym (length-reverse items) ∙ ap length (recorded ∙ split) in
-    let n = e.before in
-    omega (arith, long, count, length-append held.after held.before)
-
-pub few_items : (shelf : List Layer) (ready : Ready) (target : Target) (e : LoopEnded) (items : List Item) (n n' : Net) (First : SocketsState → SocketsState → Type 0) (calls : List Call) → reverse items ≡ n'.trace
-    → EndsBoth shelf ready target (Ok e) (uncalled n) (record { net = n'; calls = calls }) → e.before ≤ length items
-few_items shelf ready target e items n n' First calls recorded h = few_before e items n'.trace h.ended.held h.ended.items h.ended.before recorded
-
 pub held : {N T : Type 0} (First : T → List Call → T → Type 0) (Becomes : N → List Call → N → Type 0) (net : N → Net) (x y : T) (a b a' b' : N) (shelf : List Layer) (ready : Ready) (target : Target) (e : LoopEnded) (items : List Item) (s : Held)
     → first_target (listened ready) ≡ Some target → a' ≡ a → b' ≡ b → ((calls : List Call) → First x calls y → Becomes a' calls b') → reverse items ≡ (net b').trace
     → s ≡ parted items e.before (Some e.answer) (members_by e.looped) (outcome_by e.looped)
@@ -230,44 +198,13 @@ held First Becomes net x y a b a' b' shelf ready target e items s first ea eb to
     let told = kept e items (net b').trace k.held s k.items k.before k.answer k.members k.outcome recorded is in
     let by : IsBothOn shelf ready (Some target) s (uncalled (net a')) new = subst (λ v. IsBothOn shelf ready (Some target) v (uncalled (net a')) new) (sym told) k.ran in
     let there : IsBoth shelf ready s (uncalled (net a')) new = subst (λ o. IsBothOn shelf ready o s (uncalled (net a')) new) (sym first) by in
-    let all : HasRun Becomes a' b' (net a') (net b') (HoldsBoth shelf ready (Ok s)) = record {
+    let all : HasRun First x y (net a') (net b') (HoldsBoth shelf ready (Ok s)) = record {
       calls = r.calls;
-      becomes = to r.calls r.becomes;
+      becomes = r.becomes;
       shows = r.shows;
       holds = record { held = there; leaves = r.holds.leaves; closed_once = r.holds.closed_once };
     } in
-    subst (λ v. HasRun Becomes a v (net a) (net v) (HoldsBoth shelf ready (Ok s))) eb
-    (subst (λ v. HasRun Becomes v b' (net v) (net b') (HoldsBoth shelf ready (Ok s))) ea all)
-
-pub unheld : {N T : Type 0} (First : T → List Call → T → Type 0) (Becomes : N → List Call → N → Type 0) (net : N → Net) (x y : T) (a b a' b' : N) (shelf : List Layer) (ready : Ready) (target : Target) (e : Result LoopEnded NoMemory) (none : NoMemory)
-    → a' ≡ a → b' ≡ b → ((calls : List Call) → First x calls y → Becomes a' calls b')
-    → HasRun First x y (net a') (net b') (EndsBoth shelf ready target e) → HasRun Becomes a b (net a) (net b) (HoldsBoth shelf ready (Err none))
-unheld First Becomes net x y a b a' b' shelf ready target e none ea eb to r =
-    let all : HasRun Becomes a' b' (net a') (net b') (HoldsBoth shelf ready (Err none)) = record {
-      calls = r.calls;
-      becomes = to r.calls r.becomes;
-      shows = r.shows;
-      holds = record { held = tt; leaves = r.holds.leaves; closed_once = r.holds.closed_once };
-    } in
-    subst (λ v. HasRun Becomes a v (net a) (net v) (HoldsBoth shelf ready (Err none))) eb
-    (subst (λ v. HasRun Becomes v b' (net v) (net b') (HoldsBoth shelf ready (Err none))) ea all)
-
--- no leaf, no call
-pub no_call : {S : Type 0} (Becomes : S → List Call → S → Type 0) (a b : S) (n n' : Net) (shelf : List Layer) (ready : Ready) (s : Held)
-    → first_target (listened ready) ≡ None → s ≡ no_leaf → n.trace ≡ [] → HasRun Becomes a b n n' (λ old new. new ≡ old) → HasRun Becomes a b n n' (HoldsBoth shelf ready (Ok s))
-no_call Becomes a b n n' shelf ready s none is fresh r =
-    ran_on Becomes a b n n' (λ old new. new ≡ old) (HoldsBoth shelf ready (Ok s)) r
-    (λ new same.
-    let uncalled_is : LeavesUncalled (uncalled n) new = subst (λ (v : SocketsState). v ≡ record (uncalled n) { net = with_spare n v.net.spare }) (sym same) refl in
-    let there : IsBoth shelf ready s (uncalled n) new = subst (λ o. IsBothOn shelf ready o s (uncalled n) new) (sym none) (uncalled_is, is) in
-    record {
-      held = there;
-      leaves = inl uncalled_is;
-      closed_once = none_closed new.net.trace (ap (λ (v : SocketsState). v.net.trace) same ∙ fresh);
-    })
-
-pub leaves_so : (shelf : List Layer) (ready : Ready) (old new : SocketsState) → LeavesUncalled old new → LeavesBoth shelf ready old new
-leaves_so shelf ready old new same = inl same
+    returned First Becomes net x y a b a' b' (HoldsBoth shelf ready (Ok s)) ea eb to all
 
 -- the same of a copy of the target
 pub refused_copy : {N : Type 0} (Becomes : N → List Call → N → Type 0) (net : N → Net) (a a' c : Recorded N) (ready : Ready) (target copy : Target) (shelf : List Layer) (cause : Cause) (items : List Item) (count : ℕ)

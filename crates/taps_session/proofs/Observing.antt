@@ -151,10 +151,6 @@ read_is : (t : List Item) (s : ℕ) (calls : List Call) (shown : Option (List (L
 read_is t s [] shown = refl
 read_is t s (call ∷ calls) shown = ap (grown (carries_stream (items_of calls ++ t) s) (read_by call s)) (read_is t s calls shown)
 
-abbrev piece_if : Bool → Option (List ℕ) → Option (List ℕ)
-piece_if true piece = piece
-piece_if false piece = None
-
 taken_is : (bytes : List ℕ) (answer : SendAnswer) (pieces : List (List ℕ)) → pieces ++ taken_by bytes answer ≡ pieces ++ list_of (piece_of bytes answer)
 taken_is bytes (send.Sent count at) pieces = refl
 taken_is bytes (send.Timed at) pieces = refl
@@ -165,10 +161,6 @@ came_is came (recv.Got count at) pieces = refl
 came_is came recv.End pieces = refl
 came_is came (recv.Timed at) pieces = refl
 came_is came (recv.Failed cause) pieces = refl
-
-abbrev with_call : Bool → Call → List Call → List Call
-with_call true call calls = call ∷ calls
-with_call false call calls = calls
 
 -- a call that moves nothing that way
 quiet : (pieces : List Call → List (List ℕ)) (q : Bool) (call : Call) (calls : List Call) (all : List (List ℕ)) → pieces (call ∷ calls) ≡ pieces calls → pieces calls ≡ all → pieces (if q then call ∷ calls else calls) ≡ all ++ []

@@ -1,7 +1,6 @@
 -- From sockets whose items are recorded to the sockets themselves, and to what is kept of a session.
-use Rattle.std.proofs.Common.{◌≡◌, ◌≤◌, ℕ, List, [], ◌++◌, Some, Result, Ok, Err, length, refl, sym, ◌∙◌, ap, subst, inl, inr, append-nil, append_assoc, length-append, arith}
+use Rattle.std.proofs.Common.{◌≡◌, ℕ, List, [], ◌++◌, Some, Result, Ok, Err, refl, sym, ◌∙◌, ap, subst, inl, inr, append-nil, append_assoc}
 use Rattle.std.specs.Prelude.{reverse}
-use Rattle.std.proofs.lemmas.List.{length-reverse}
 use Rattle.taps_base.specs.declared.no_memory.NoMemory.{NoMemory}
 use Rattle.taps_framer.specs.Layers.{Layer}
 use Rattle.taps_socket.specs.declared.item.Item.{Item}
@@ -12,7 +11,7 @@ use Rattle.taps_socket.specs.Shows.{Shows}
 use Rattle.taps_socket.specs.Shown.{items_on, spare_on, shows_spare}
 use Rattle.taps_command.specs.Nets.{HasRun, SocketsState, uncalled}
 use Rattle.taps_command.specs.Ready.{Ready}
-use Rattle.taps_command.proofs.Running.{ran_on, ran_by}
+use Rattle.taps_command.proofs.Running.{ran_by}
 use Rattle.taps_session.specs.Raced.{IsEnded, EndsSession}
 use Rattle.taps_session.specs.Session.{members_by, outcome_by, parted}
 use Rattle.taps_session.specs.SessionLogs.{Held, HoldsSession, held_of, outcome_told, IsSeen, LeavesSession}
@@ -81,14 +80,6 @@ behind before c trace fresh e =
     ∙ sym (append_assoc (items_of (closing c.answer)) (items_of c.exchange) c.race)
     ∙ ap (λ v. v ++ c.race) (sym (items_on c.exchange (closing c.answer)))
 
--- so many of the items are the race's
-pub few_raced : (shelf : List Layer) (ready : Ready) (e : Ended) (items : List Item) (old new : SocketsState) → old.net.trace ≡ [] → reverse items ≡ new.net.trace → IsEnded shelf ready e old new → e.raced ≤ length items
-few_raced shelf ready e items old new fresh recorded x =
-    let split = recorded ∙ behind old.net.trace x.course new.net.trace fresh x.seen.items in
-    let long : length items ≡ length (items_of (closing x.course.answer ++ x.course.exchange) ++ x.course.race) = sym (length-reverse items) ∙ ap length split in
-    let count = x.raced in
-    omega (arith, long, count, length-append (items_of (closing x.course.answer ++ x.course.exchange)) x.course.race)
-
 -- what is kept is the session
 kept_is : (shelf : List Layer) (ready : Ready) (e : Ended) (items : List Item) (old new : SocketsState) (s : Held) → old.net.trace ≡ [] → reverse items ≡ new.net.trace
     → s ≡ parted items e.raced (Some e.answer) (members_by e.exchanged) (outcome_told (outcome_by e.exchanged)) → (x : IsEnded shelf ready e old new) → s ≡ held_of shelf ready x.course
@@ -119,19 +110,17 @@ held Becomes a b n n' shelf ready e items s fresh recorded is r =
       };
     }
 
--- where memory ran out, nothing is kept
-pub unheld : {S : Type 0} (Becomes : S → List Call → S → Type 0) (a b : S) (n n' : Net) (shelf : List Layer) (ready : Ready) (e : Result Ended NoMemory) (none : NoMemory)
-    → HasRun Becomes a b n n' (EndsSession shelf ready e) → HasRun Becomes a b n n' (HoldsSession shelf ready (Err none))
-unheld Becomes a b n n' shelf ready e none r =
-    ran_on Becomes a b n n' (EndsSession shelf ready e) (HoldsSession shelf ready (Err none)) r
-    (λ new h. record { held = tt; leaves = h.leaves; closed_once = h.closed_once })
+-- a run of sockets that were lent to a recorder is one of the sockets
+pub returned : {N T : Type 0} (First : T → List Call → T → Type 0) (Becomes : N → List Call → N → Type 0) (net : N → Net) (x y : T) (a b a' b' : N) (P : SocketsState → SocketsState → Type 0)
+    → a' ≡ a → b' ≡ b → ((calls : List Call) → First x calls y → Becomes a' calls b') → HasRun First x y (net a') (net b') P → HasRun Becomes a b (net a) (net b) P
+returned First Becomes net x y a b a' b' P ea eb to r =
+    subst (λ v. HasRun Becomes a v (net a) (net v) P) eb
+    (subst (λ v. HasRun Becomes v b' (net v) (net b') P) ea (ran_by First Becomes x y a' b' (net a') (net b') P to r))
 
--- the same of sockets that were lent to the recorder
+-- the session of sockets that were lent to a recorder
 pub held_when : {N T : Type 0} (First : T → List Call → T → Type 0) (Becomes : N → List Call → N → Type 0) (net : N → Net) (x y : T) (a b a' b' : N) (shelf : List Layer) (ready : Ready) (e : Ended) (items : List Item) (s : Held)
     → a' ≡ a → b' ≡ b → ((calls : List Call) → First x calls y → Becomes a' calls b') → (net a).trace ≡ [] → reverse items ≡ (net b').trace → s ≡ parted items e.raced (Some e.answer) (members_by e.exchanged) (outcome_told (outcome_by e.exchanged))
     → HasRun First x y (net a') (net b') (EndsSession shelf ready (Ok e)) → HasRun Becomes a b (net a) (net b) (HoldsSession shelf ready (Ok s))
 held_when First Becomes net x y a b a' b' shelf ready e items s ea eb to fresh recorded is r =
-    subst (λ v. HasRun Becomes a v (net a) (net v) (HoldsSession shelf ready (Ok s))) eb
-    (subst (λ v. HasRun Becomes v b' (net v) (net b') (HoldsSession shelf ready (Ok s))) ea
-    (held Becomes a' b' (net a') (net b') shelf ready e items s (ap (λ v. (net v).trace) ea ∙ fresh) recorded is
-    (ran_by First Becomes x y a' b' (net a') (net b') (EndsSession shelf ready (Ok e)) to r)))
+    returned First Becomes net x y a b a' b' (HoldsSession shelf ready (Ok s)) ea eb to
+    (held First x y (net a') (net b') shelf ready e items s (ap (λ v. (net v).trace) ea ∙ fresh) recorded is r)

@@ -68,9 +68,6 @@ only_one shelf ready lines c d one_way unique one two =
 first_represents : (lines : List Line) → Represents (at_first lines) []
 first_represents lines = record { follows = tt; clock = refl; trace = refl; written = λ q. refl; read = λ q. refl }
 
-pub starts_empty : (sockets : Scripted) → sockets ≡ at_first sockets.lines → sockets.trace ≡ []
-starts_empty sockets first = ap (λ (s : Scripted). s.trace) first
-
 -- the calls on sockets that began by the script follow it
 pub follows_all : (before after : Scripted) (calls : List Call) → before ≡ at_first before.lines → StaysScripted before calls after → Follows before.lines calls
 follows_all before after calls first stays =

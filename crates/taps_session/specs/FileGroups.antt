@@ -1,6 +1,6 @@
 -- The group of a file: its clones, the priorities of its members and their messages (RFC 9622 sections 7.4 and 9; the
 -- keys are local).
-use Rattle.std.specs.Prelude.{ℕ, Bool, ◌&&◌, ◌==◌, List, length, map}
+use Rattle.std.specs.Prelude.{Bool, ◌&&◌, ◌==◌, List, length, map}
 use Rattle.taps_framer.specs.Layers.{Layer}
 use Rattle.taps_preconnection.specs.declared.message.MessageSpec.{MessageSpec}
 use Rattle.taps_preconnection.specs.declared.preconnection.Preconnection.{Preconnection}

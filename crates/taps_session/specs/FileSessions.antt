@@ -1,6 +1,7 @@
 -- The plan of a file's session, and the rules and targets of its race.
 use Rattle.std.specs.Prelude.{◌≡◌, ◌<◌, ◌≤◌, ℕ, List, [], length, map, fold}
 use Rattle.std.specs.List.{All, cons_option, flat_map}
+use Rattle.taps_framer.specs.Layers.{Layer}
 use Rattle.taps_endpoint.specs.declared.address.Address.{Address}
 use Rattle.taps_endpoint.specs.declared.local.Local.{Local}
 use Rattle.taps_endpoint.specs.DerivedAddresses.{with_address}
@@ -16,6 +17,7 @@ use Rattle.taps_candidate.specs.Plan.{RankedPlan, plan_of, listed}
 use Rattle.taps_candidate.specs.PlanText.{interface_of, plan_text}
 use Rattle.taps_candidate.specs.declared.plan.Plan as candidate
 use Rattle.taps_racer.specs.Kept.{IsShort}
+use Rattle.taps_command.specs.Places.{chain_of}
 use Rattle.taps_command.specs.Ready.{Ready}
 
 -- the plan of a role over addresses
@@ -64,3 +66,13 @@ pub record IsPlanFor (ready : Ready) (wanted : RankedPlan) (plan : candidate.Pla
   pub placed : All (λ leaf. leaf.path < length ready.pre.paths.items) plan.leaves.items
   pub few : length plan.leaves.items ≤ 768
   pub short : All IsShort plan.gaps.items
+
+-- what a session that races goes by: these framers are the file's, and so are the rules of its race and these targets,
+-- with a gap for each one, of which there are no more than a race may try
+pub record IsPrepared (shelf : List Layer) (ready : Ready) (framers : List Layer) (rules : Rules)
+    (targets : List Target) : Type 0 where
+  pub layers : framers ≡ chain_of shelf ready.places
+  pub same_rules : rules ≡ rules_of ready
+  pub same_targets : targets ≡ targets_of ready
+  pub leaves : length rules.gaps ≡ length targets
+  pub few : length targets ≤ 1024

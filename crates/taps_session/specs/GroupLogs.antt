@@ -1,5 +1,5 @@
 -- The log of a session of a group, its status, and what is seen of it.
-use Rattle.std.specs.Prelude.{◌≡◌, ◌⊎◌, ℕ, List, [], ◌∷◌, ◌++◌, map, Option, Some, None, Result}
+use Rattle.std.specs.Prelude.{◌≡◌, ℕ, List, [], ◌∷◌, ◌++◌, map, Option, Some, None, Result}
 use Rattle.taps_base.specs.Counts.{Rose}
 use Rattle.taps_base.specs.declared.no_memory.NoMemory.{NoMemory}
 use Rattle.taps_framer.specs.Layers.{Layer}

@@ -8,21 +8,21 @@ ghost use Rattle.taps_stack.specs.StackTable.{is_stream};
 ghost use Rattle.taps_command.specs.Nets.{HasRun};
 ghost use Rattle.taps_command.specs.Places.{chain_of, IsOnShelf};
 ghost use Rattle.taps_command.specs.Shelves.{layers_on};
-ghost use Rattle.taps_session.specs.FileSessions.{initiated, rules_of, targets_of, IsPlanFor};
+ghost use Rattle.taps_session.specs.FileSessions.{initiated, targets_of, IsPlanFor, IsPrepared};
 ghost use Rattle.taps_session.specs.GroupLogs.{HoldsGrouped};
 ghost use Rattle.taps_session.specs.GroupParts.{EndsGrouped, GroupGoesOn, HoldsGroup, terms_by};
 ghost use Rattle.taps_session.specs.Raced.{HasWinner};
 
 use crate::holding::race;
 use crate::messages::all_messages;
-use crate::plan::targets;
+use crate::preparing::{Prepared, prepare};
 use crate::session::Session;
 use std::alloc::Global;
 use taps_base::NoMemory;
 use taps_candidate::Plan;
 use taps_chain::Chain;
 use taps_cloning::{HeldGroup, Terms, hold_group};
-use taps_command::{Layers, Ready, Shelf, chain, vouch_untouched};
+use taps_command::{Layers, Ready, Shelf, vouch_untouched};
 use taps_framer::Framer;
 use taps_group_exchange::vouch_members;
 use taps_racer::{RaceAnswer, Racer, Unstarted};
@@ -57,11 +57,11 @@ pub fn hold_grouped<L: Layers, N: Sockets>(
         (HoldsGrouped L.layers ready.now result) }
 {
     vouch_untouched::<N>(net);
-    let targets = targets(alloc, plan.leaves.as_slice())?;
-    let chain = chain::<L>(alloc, shelf, &ready.places)?;
-    let race = &ready.pre.race;
-    let gaps = plan.gaps.as_slice();
-    let racer = Racer::new(alloc, gaps, race.timeout_ms, race.cancel_ms)?;
+    let Prepared {
+        racer,
+        targets,
+        chain,
+    } = prepare::<L>(alloc, shelf, ready, plan)?;
     record_grouped::<L, N>(alloc, ready, racer, &targets, chain, net)
 }
 
@@ -74,11 +74,8 @@ fn record_grouped<L: Layers, N: Sockets>(
     chain: Chain<'_>,
     net: &mut N,
 ) -> Result<Session, NoMemory>
-    requires layers { layers_of ⟦<dyn Framer as Framer>⟧ chain ≡ chain_of L.layers ready.now.places }
-    requires rules { racer.rules ≡ rules_of ready.now }
-    requires targets { targets.now ≡ targets_of ready.now }
-    requires leaves { length racer.rules.gaps ≡ length targets.now }
-    requires few { length targets.now ≤ 1024 }
+    requires prepared { IsPrepared L.layers ready.now
+        (layers_of ⟦<dyn Framer as Framer>⟧ chain) racer.rules targets.now }
     requires fresh { (N.net net.old).trace ≡ [] }
     ensures ran { HasRun N.Becomes net.old net.new (N.net net.old) (N.net net.new)
         (HoldsGrouped L.layers ready.now result) }
@@ -106,11 +103,8 @@ fn carry_grouped<L: Layers, N: Sockets>(
     chain: Chain<'_>,
     net: &mut Recorder<N>,
 ) -> Result<GroupEnded, NoMemory>
-    requires layers { layers_of ⟦<dyn Framer as Framer>⟧ chain ≡ chain_of L.layers ready.now.places }
-    requires rules { racer.rules ≡ rules_of ready.now }
-    requires targets { targets.now ≡ targets_of ready.now }
-    requires leaves { length racer.rules.gaps ≡ length targets.now }
-    requires few { length targets.now ≤ 1024 }
+    requires prepared { IsPrepared L.layers ready.now
+        (layers_of ⟦<dyn Framer as Framer>⟧ chain) racer.rules targets.now }
     requires fresh { (N.net net.old.net).trace ≡ [] }
     ensures ran { HasRun N.Becomes net.old.net net.new.net (N.net net.old.net) (N.net net.new.net)
         (EndsGrouped L.layers ready.now result) }

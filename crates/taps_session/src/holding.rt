@@ -1,4 +1,4 @@
-ghost use Rattle.std.specs.Prelude.{◌≡◌, ◌≤◌, ◌<◌, ◌+◌, ◌*◌, ℕ, [], false, true, length, slice_get, IfOk, OnErr};
+ghost use Rattle.std.specs.Prelude.{◌≡◌, ◌≤◌, ◌<◌, ◌+◌, ◌*◌, [], false, true, length, IfOk, OnErr};
 ghost use Rattle.taps_chain.specs.Layers.{layers_of};
 ghost use Rattle.taps_connection.specs.Conditions.{IsHeld};
 ghost use Rattle.taps_exchange.specs.Exchanged.{HasExchanged};
@@ -9,19 +9,19 @@ ghost use Rattle.taps_stack.specs.StackTable.{is_stream};
 ghost use Rattle.taps_command.specs.Nets.{HasRun};
 ghost use Rattle.taps_command.specs.Places.{chain_of, IsOnShelf};
 ghost use Rattle.taps_command.specs.Shelves.{layers_on};
-ghost use Rattle.taps_session.specs.FileSessions.{initiated, rules_of, targets_of, IsPlanFor};
+ghost use Rattle.taps_session.specs.FileSessions.{initiated, IsPlanFor, IsPrepared};
 ghost use Rattle.taps_session.specs.Raced.{EndsSession, GoesOn, HasWinner, IsRaced};
 ghost use Rattle.taps_session.specs.SessionLogs.{HoldsSession};
 ghost use Rattle.taps_session.specs.Sessions.{deadline_of, member_at};
 
 use crate::messages::messages;
-use crate::plan::targets;
+use crate::preparing::{Prepared, prepare};
 use crate::session::Session;
 use std::alloc::Global;
 use taps_base::NoMemory;
 use taps_candidate::Plan;
 use taps_chain::Chain;
-use taps_command::{Layers, Ready, Shelf, chain, vouch_untouched};
+use taps_command::{Layers, Ready, Shelf, vouch_untouched};
 use taps_exchange::{Exchanged, exchange_over};
 use taps_framer::Framer;
 use taps_racer::{RaceAnswer, Racer, Unstarted, establish};
@@ -56,11 +56,11 @@ pub fn hold<L: Layers, N: Sockets>(
         (HoldsSession L.layers ready.now result) }
 {
     vouch_untouched::<N>(net);
-    let targets = targets(alloc, plan.leaves.as_slice())?;
-    let chain = chain::<L>(alloc, shelf, &ready.places)?;
-    let race = &ready.pre.race;
-    let gaps = plan.gaps.as_slice();
-    let racer = Racer::new(alloc, gaps, race.timeout_ms, race.cancel_ms)?;
+    let Prepared {
+        racer,
+        targets,
+        chain,
+    } = prepare::<L>(alloc, shelf, ready, plan)?;
     record_session::<L, N>(alloc, ready, racer, &targets, chain, net)
 }
 
@@ -73,11 +73,8 @@ fn record_session<L: Layers, N: Sockets>(
     chain: Chain<'_>,
     net: &mut N,
 ) -> Result<Session, NoMemory>
-    requires layers { layers_of ⟦<dyn Framer as Framer>⟧ chain ≡ chain_of L.layers ready.now.places }
-    requires rules { racer.rules ≡ rules_of ready.now }
-    requires targets { targets.now ≡ targets_of ready.now }
-    requires leaves { length racer.rules.gaps ≡ length targets.now }
-    requires few { length targets.now ≤ 1024 }
+    requires prepared { IsPrepared L.layers ready.now
+        (layers_of ⟦<dyn Framer as Framer>⟧ chain) racer.rules targets.now }
     requires fresh { (N.net net.old).trace ≡ [] }
     ensures ran { HasRun N.Becomes net.old net.new (N.net net.old) (N.net net.new)
         (HoldsSession L.layers ready.now result) }
@@ -105,11 +102,8 @@ fn carry_out<L: Layers, N: Sockets>(
     chain: Chain<'_>,
     net: &mut Recorder<N>,
 ) -> Result<Ended, NoMemory>
-    requires layers { layers_of ⟦<dyn Framer as Framer>⟧ chain ≡ chain_of L.layers ready.now.places }
-    requires rules { racer.rules ≡ rules_of ready.now }
-    requires targets { targets.now ≡ targets_of ready.now }
-    requires leaves { length racer.rules.gaps ≡ length targets.now }
-    requires few { length targets.now ≤ 1024 }
+    requires prepared { IsPrepared L.layers ready.now
+        (layers_of ⟦<dyn Framer as Framer>⟧ chain) racer.rules targets.now }
     requires fresh { (N.net net.old.net).trace ≡ [] }
     ensures ran { HasRun N.Becomes net.old.net net.new.net (N.net net.old.net) (N.net net.new.net)
         (EndsSession L.layers ready.now result) }

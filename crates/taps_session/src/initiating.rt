@@ -33,26 +33,7 @@ pub fn hold_initiated<L: Layers, N: Sockets>(
     ensures ran { HasRun N.Becomes net.old net.new (N.net net.old) (N.net net.new)
         (HoldsInitiatedBy (groups.has_one_member ready.now.pre) L.layers ready.now result) }
 {
-    let one = has_one_member(&ready.pre);
-    hold_by::<L, N>(alloc, shelf, ready, one, plan, net)
-}
-
-fn hold_by<L: Layers, N: Sockets>(
-    alloc: Global,
-    shelf: &Shelf<'_>,
-    ready: &Ready,
-    one: bool,
-    plan: &Plan,
-    net: &mut N,
-) -> Result<Session, NoMemory>
-    requires shelf { layers_on ⟦<dyn Framer as Framer>⟧ shelf.now ≡ L.layers }
-    requires on_shelf { IsOnShelf L.layers ready.now.places }
-    requires plan { IsPlanFor ready.now (initiated ready.now) plan.now }
-    requires fresh { (N.net net.old).trace ≡ [] }
-    ensures ran { HasRun N.Becomes net.old net.new (N.net net.old) (N.net net.new)
-        (HoldsInitiatedBy one L.layers ready.now result) }
-{
-    if one {
+    if has_one_member(&ready.pre) {
         hold::<L, N>(alloc, shelf, ready, plan, net)
     } else {
         hold_grouped::<L, N>(alloc, shelf, ready, plan, net)

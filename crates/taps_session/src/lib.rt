@@ -10,6 +10,7 @@ mod initiating;
 mod looping;
 mod messages;
 mod plan;
+mod preparing;
 mod serving;
 mod session;
 mod session_log;

@@ -10,7 +10,7 @@ ghost use Rattle.taps_stack.specs.StackTable.{is_stream};
 ghost use Rattle.taps_command.specs.Nets.{HasRun};
 ghost use Rattle.taps_command.specs.Places.{chain_of, IsOnShelf};
 ghost use Rattle.taps_command.specs.Shelves.{layers_on};
-ghost use Rattle.taps_session.specs.FileSessions.{initiated, listened, rules_of, targets_of, IsPlanFor};
+ghost use Rattle.taps_session.specs.FileSessions.{initiated, listened, IsPlanFor, IsPrepared};
 ghost use Rattle.taps_session.specs.Loops.{EndsBoth, HoldsBoth};
 ghost use Rattle.taps_session.specs.LoopParts as parts;
 ghost use Rattle.taps_session.specs.LoopParts.{GoBehind, GoWithout, LoopsWith};
@@ -19,13 +19,14 @@ ghost use Rattle.taps_session.specs.RacedBehind.{HasRacedBehind, IsOther};
 ghost use Rattle.taps_session.specs.Services.{first_target};
 
 use crate::messages::messages;
-use crate::plan::{listen, targets};
+use crate::plan::listen;
+use crate::preparing::{Prepared, prepare};
 use crate::session::Session;
 use std::alloc::Global;
 use taps_base::NoMemory;
 use taps_candidate::Plan;
 use taps_chain::Chain;
-use taps_command::{Layers, Ready, Shelf, chain, vouch_untouched};
+use taps_command::{Layers, Ready, Shelf, vouch_untouched};
 use taps_connection::Listener;
 use taps_framer::Framer;
 use taps_loop::{Looped, Reporting, loop_over};
@@ -89,11 +90,11 @@ fn hold_on<L: Layers, N: Sockets>(
         (HoldsBoth L.layers ready.now result) }
 {
     vouch_untouched::<N>(net);
-    let targets = targets(alloc, plan.leaves.as_slice())?;
-    let chain = chain::<L>(alloc, shelf, &ready.places)?;
-    let race = &ready.pre.race;
-    let gaps = plan.gaps.as_slice();
-    let racer = Racer::new(alloc, gaps, race.timeout_ms, race.cancel_ms)?;
+    let Prepared {
+        racer,
+        targets,
+        chain,
+    } = prepare::<L>(alloc, shelf, ready, plan)?;
     record_both::<L, N>(alloc, ready, target, racer, &targets, chain, net)
 }
 
@@ -107,11 +108,8 @@ fn record_both<L: Layers, N: Sockets>(
     chain: Chain<'_>,
     net: &mut N,
 ) -> Result<Session, NoMemory>
-    requires layers { layers_of ⟦<dyn Framer as Framer>⟧ chain ≡ chain_of L.layers ready.now.places }
-    requires rules { racer.rules ≡ rules_of ready.now }
-    requires targets { targets.now ≡ targets_of ready.now }
-    requires leaves { length racer.rules.gaps ≡ length targets.now }
-    requires few { length targets.now ≤ 1024 }
+    requires prepared { IsPrepared L.layers ready.now
+        (layers_of ⟦<dyn Framer as Framer>⟧ chain) racer.rules targets.now }
     requires first { first_target (listened ready.now) ≡ Some target }
     requires stream { is_stream target.stack ≡ true }
     requires fresh { (N.net net.old).trace ≡ [] }
@@ -142,11 +140,8 @@ fn carry_both<L: Layers, N: Sockets>(
     chain: Chain<'_>,
     net: &mut Recorder<N>,
 ) -> Result<LoopEnded, NoMemory>
-    requires layers { layers_of ⟦<dyn Framer as Framer>⟧ chain ≡ chain_of L.layers ready.now.places }
-    requires rules { racer.rules ≡ rules_of ready.now }
-    requires targets { targets.now ≡ targets_of ready.now }
-    requires leaves { length racer.rules.gaps ≡ length targets.now }
-    requires few { length targets.now ≤ 1024 }
+    requires prepared { IsPrepared L.layers ready.now
+        (layers_of ⟦<dyn Framer as Framer>⟧ chain) racer.rules targets.now }
     requires first { first_target (listened ready.now) ≡ Some target }
     requires stream { is_stream target.stack ≡ true }
     requires fresh { (N.net net.old.net).trace ≡ [] }
